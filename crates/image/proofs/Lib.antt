@@ -1,0 +1,6 @@
+mod Numbers
+mod Runs
+mod Stages
+mod Said
+mod Written
+mod Exact

@@ -1,0 +1,4 @@
+pub mod Content
+pub mod Steps
+pub mod Read
+pub mod Stage

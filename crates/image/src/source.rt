@@ -1,0 +1,70 @@
+//! An image that is read from front to back.
+ghost use Prim.Native.Nat.{ℕ};
+ghost use Rattle.image.specs.Read.{numberAt, startOf};
+ghost use Rattle.image.specs.Stage.{Follows};
+ghost use mathlib.Core.Path.{_≡_};
+use crate::refusals::Fault;
+use crate::refusals::Refusal;
+
+/// A reader over a borrowed image, with the position of the next byte.
+#[derive(Drop)]
+pub struct Reader<'a> {
+    bytes: &'a [u8],
+    position: usize,
+}
+
+impl<'a> Reader<'a> {
+    /// A reader behind the two bytes at the start of an image.
+    pub fn open(bytes: &'a [u8]) -> Result<Reader<'a>, Refusal>
+        ensures { λ r. ⌜ Follows r (startOf (now (bytes .entry))) (λ reader at. (now (reader .bytes) ≡ now (bytes .entry)) × (reader .position ≡ at)) ⌝ }
+    {
+        match bytes {
+            [0x43, 0x4D, rest @ ..] => Ok(Reader {
+                bytes,
+                position: bytes.len() - rest.len(),
+            }),
+            [_, _, ..] => Err(Refusal {
+                fault: Fault::Start,
+                place: 0,
+                object: 0,
+            }),
+            _ => Err(Refusal {
+                fault: Fault::Number(leb128::Fault::EndsEarly),
+                place: bytes.len(),
+                object: 0,
+            }),
+        }
+    }
+
+    /// The position of the next byte.
+    pub fn position(&self) -> usize
+        ensures { λ r. ⌜ r ≡ now (self .entry) .position ⌝ }
+    {
+        self.position
+    }
+
+    /// The number at the reader's position, which moves past it. A fault leaves the position; it is
+    /// reported in `object`, the number of the object that is read, or 0.
+    pub fn number(&mut self, object: u32) -> Result<u32, Refusal>
+        ensures value { λ r. ⌜ Follows r (numberAt (now (now (self .entry) .bytes)) object (now (self .entry) .position)) (λ v p. (p .value ≡ v) × (p .next ≡ now (self .exit) .position)) ⌝ }
+        ensures same { λ r. ⌜ now (now (self .exit) .bytes) ≡ now (now (self .entry) .bytes) ⌝ }
+    {
+        match leb128::read(self.bytes, self.position) {
+            Ok(number) => {
+                self.position = number.next;
+                Ok(number.value)
+            }
+            Err(fault) => {
+                let place = match fault {
+                    leb128::Fault::EndsEarly => self.bytes.len(),
+                    leb128::Fault::NotShortest | leb128::Fault::TooWide => self.position,
+                };
+                Err(Refusal {
+                    fault: Fault::Number(fault),
+                    place,
+                    object,
+                })
+            }
+        }
+    }
+}
