@@ -4,3 +4,5 @@ mod Stages
 mod Said
 mod Written
 mod Exact
+mod Places
+pub mod Sizes

@@ -32,6 +32,11 @@ abbrev pub headersOf : Result Content Refusal → List ℕ
 headersOf (Ok c) = headers (c .objects)
 headersOf (Err f) = []
 
+-- an image has a byte at least for each word, and nothing is reported past its end
+abbrev pub WithinBytes : List ℕ → Result Summary Refusal → Type 0
+WithinBytes bs (Ok s) = s .words ≤ length bs
+WithinBytes bs (Err f) = f .place ≤ length bs
+
 -- a value may stand in its role: a reference names one of n objects, and is at most one above the greatest so far, m
 abbrev pub Admitted : Role → ℕ → ℕ → ℕ → Type 0
 Admitted role.Plain n m v = v < 2 ^ 32

@@ -2,7 +2,7 @@
 ghost use Prim.Native.Nat.{ℕ, _*_, _+_, _<_, _≤_};
 ghost use Rattle.image.specs.Content.{headers, words};
 ghost use Rattle.image.specs.Read.{bodyAt, bodyRole, countsAt, judged, objectAt, objectsAt, read, rootRole, rootsAt, signAt, valueAt};
-ghost use Rattle.image.specs.Stage.{Exact, Follows, headersOf, summarised, summaryOf};
+ghost use Rattle.image.specs.Stage.{Exact, Follows, WithinBytes, headersOf, summarised, summaryOf};
 ghost use Rattle.std.specs.Iters.{folded};
 ghost use Rattle.std.specs.Vec.{made};
 ghost use mathlib.Core.Path.{_≡_};
@@ -272,6 +272,7 @@ pub fn visit<L: Layout, V: Visitor>(bytes: &[u8], visitor: &mut V) -> Result<Sum
     ensures reads { λ r. ⌜ r ≡ summarised (L·Layout .shape) (read (L·Layout .shape) (now (bytes .entry))) ⌝ }
     ensures told { λ r. ⌜ made r (λ _. now (visitor .exit) ≡ folded (V·Visitor .next) (now (visitor .entry)) (headersOf (read (L·Layout .shape) (now (bytes .entry))))) ⌝ }
     ensures exact { λ r. ⌜ Exact (L·Layout .shape) (now (bytes .entry)) ⌝ }
+    ensures within { λ r. ⌜ WithinBytes (now (bytes .entry)) r ⌝ }
 {
     read_image::<L, V>(bytes, visitor)
 }
@@ -280,6 +281,7 @@ pub fn visit<L: Layout, V: Visitor>(bytes: &[u8], visitor: &mut V) -> Result<Sum
 pub fn check<L: Layout>(bytes: &[u8]) -> Result<Summary, Refusal>
     ensures reads { λ r. ⌜ r ≡ summarised shape (read shape (now (bytes .entry))) ⌝ }
     ensures exact { λ r. ⌜ Exact shape (now (bytes .entry)) ⌝ }
+    ensures within { λ r. ⌜ WithinBytes (now (bytes .entry)) r ⌝ }
 {
     visit::<L, Unwatched>(bytes, &mut Unwatched)
 }
