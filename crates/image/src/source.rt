@@ -1,10 +1,20 @@
 //! An image that is read from front to back.
 ghost use Prim.Native.Nat.{ℕ};
-ghost use Rattle.image.specs.Read.{numberAt, startOf};
+ghost use Rattle.image.specs.Read.{faultPlace, numberAt, startOf};
 ghost use Rattle.image.specs.Stage.{Follows};
 ghost use mathlib.Core.Path.{_≡_};
 use crate::refusals::Fault;
 use crate::refusals::Refusal;
+
+// Where a fault of the number at a position is reported.
+fn fault_place(fault: leb128::Fault, bytes: &[u8], position: usize) -> usize
+    ensures { λ r. ⌜ r ≡ faultPlace fault (now (bytes .entry)) position ⌝ }
+{
+    match fault {
+        leb128::Fault::EndsEarly => bytes.len(),
+        leb128::Fault::NotShortest | leb128::Fault::TooWide => position,
+    }
+}
 
 /// A reader over a borrowed image, with the position of the next byte.
 #[derive(Drop)]
@@ -37,7 +47,7 @@ impl<'a> Reader<'a> {
     }
 
     /// The position of the next byte.
-    pub fn position(&self) -> usize
+    pub(crate) fn position(&self) -> usize
         ensures { λ r. ⌜ r ≡ now (self .entry) .position ⌝ }
     {
         self.position
@@ -54,17 +64,11 @@ impl<'a> Reader<'a> {
                 self.position = number.next;
                 Ok(number.value)
             }
-            Err(fault) => {
-                let place = match fault {
-                    leb128::Fault::EndsEarly => self.bytes.len(),
-                    leb128::Fault::NotShortest | leb128::Fault::TooWide => self.position,
-                };
-                Err(Refusal {
-                    fault: Fault::Number(fault),
-                    place,
-                    object,
-                })
-            }
+            Err(fault) => Err(Refusal {
+                fault: Fault::Number(fault),
+                place: fault_place(fault, self.bytes, self.position),
+                object,
+            }),
         }
     }
 }

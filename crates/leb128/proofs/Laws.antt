@@ -18,7 +18,7 @@ use Rattle.std.specs.declared.result.Result.{Result}
 use Rattle.std.specs.declared.result.Result.the-variants.{Ok, Err}
 use Rattle.leb128.specs.declared.Fault.{Fault}
 use Rattle.leb128.specs.declared.Number.{Number}
-use Rattle.leb128.specs.Number.{Decoded, joined, follow, decode, groups, encode, limit, from, readAt, replaced, overwritten}
+use Rattle.leb128.specs.Number.{Decoded, joined, follow, decode, groups, encode, limit, groupCount, from, readAt, replaced, overwritten}
 use Rattle.leb128.specs.Laws.{ReadsBack, Canonical}
 use Rattle.leb128.proofs.Steps.{Bytes, follow-more, decode-more, groups-one, groups-more, lower}
 
@@ -113,10 +113,10 @@ decode-whole (b ∷ bs) ty =
     let big : 128 ≤ b = grind (arith, tells) in
     formed-whole (b ∷ bs) (joined b (follow bs 3)) (formed-more b 4 bs (follow bs 3) big (ty 0) (omega arith) (omega arith) (follow-formed bs 3 (λ i. ty (suc i)) (omega arith))))
 
--- how many bytes a number takes
-pub encode-size : (n : ℕ) → length (encode n) ≡ cond (ltb n 128) 1 (cond (ltb n 16384) 2 (cond (ltb n 2097152) 3 (cond (ltb n 268435456) 4 5)))
+-- a number takes a byte for each of its groups
+pub encode-count : (n : ℕ) → groupCount n ≡ length (encode n)
 unfolding encode
-encode-size n = grind (arith, tells)
+encode-count n = grind (arith, tells)
 
 pub encode-length : (n : ℕ) → (1 ≤ length (encode n)) × (length (encode n) ≤ 5)
 unfolding encode

@@ -25,6 +25,10 @@ groups (suc k) n = cond (ltb n 128) (n ∷ []) ((128 + n % 128) ∷ groups k (n 
 unfoldable pub encode : ℕ → List ℕ
 encode n = groups 4 n
 
+-- how many groups of seven bits a number has, 1 for the number 0
+abbrev pub groupCount : ℕ → ℕ
+groupCount n = cond (ltb n 128) 1 (cond (ltb n 16384) 2 (cond (ltb n 2097152) 3 (cond (ltb n 268435456) 4 5)))
+
 -- above each value whose written form has at most k bytes after the first, where a fifth byte is at most 15
 abbrev pub limit : ℕ → ℕ
 limit k = cond (eqb k 0) 16 (cond (eqb k 1) 2048 (cond (eqb k 2) 262144 (cond (eqb k 3) 33554432 4294967296)))

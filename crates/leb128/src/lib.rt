@@ -2,7 +2,7 @@
 //! bytes but the last, and only the shortest form of a number is read or written.
 ghost use Prim.Native.Nat.{ℕ, _*_, _+_, _-_, _<_, _^_, _≤_};
 ghost use Rattle.leb128.specs.Laws.{Reading};
-ghost use Rattle.leb128.specs.Number.{decode, encode, follow, groups, limit, overwritten, readAt, refusalOf, replaced};
+ghost use Rattle.leb128.specs.Number.{decode, encode, follow, groupCount, groups, limit, overwritten, readAt, refusalOf, replaced};
 ghost use Rattle.std.specs.Options.{Cases as BySome};
 ghost use lib.ListN.{drop, length};
 ghost use mathlib.Core.Path.{_≡_};
@@ -94,10 +94,9 @@ pub fn read(bytes: &[u8], at: usize) -> Result<Number, Fault>
     })
 }
 
-/// How many bytes the written form of `value` has.
-pub fn encoded_len(value: u32) -> usize
-    ensures length { λ r. ⌜ r ≡ length (encode value) ⌝ }
-    ensures range { λ r. ⌜ (1 ≤ r) × (r ≤ 5) ⌝ }
+// How many groups of seven bits `value` has.
+fn group_count(value: u32) -> usize
+    ensures { λ r. ⌜ r ≡ groupCount value ⌝ }
 {
     if value < 0x80 {
         1
@@ -110,6 +109,14 @@ pub fn encoded_len(value: u32) -> usize
     } else {
         5
     }
+}
+
+/// How many bytes the written form of `value` has.
+pub fn encoded_len(value: u32) -> usize
+    ensures length { λ r. ⌜ r ≡ length (encode value) ⌝ }
+    ensures range { λ r. ⌜ (1 ≤ r) × (r ≤ 5) ⌝ }
+{
+    group_count(value)
 }
 
 // Writes the groups of `value`, of which at most `left` follow the first, and tells the position after them.
