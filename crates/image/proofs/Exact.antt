@@ -20,7 +20,7 @@ use Rattle.image.specs.declared.refusals.Refusal.{Refusal}
 use Rattle.image.specs.Content.{Object, Content, numbers, objectsBytes, written}
 use Rattle.image.specs.Steps.{bind}
 use Rattle.image.specs.Read.{refuse, numberAt, startOf, signAt, countsAt, State, rootRole, rootsAt, objectsAt, finished, read}
-use Rattle.image.specs.Stage.{greatestOf, Numbered, Ordered, WellNumbered, Exact}
+use Rattle.image.specs.Numbering.{greatestOf, Numbered, Ordered, WellNumbered, Exact}
 use Rattle.image.proofs.Runs.{bind-ok, cond-ok, ok-is, collect-runs, runs-collect}
 use Rattle.image.proofs.Stages.{rootStep, objectStep, sign-ok, counts-ok, read-ok}
 use Rattle.image.proofs.Said.{number-said, values-said, objects-said}

@@ -28,7 +28,7 @@ use Rattle.image.specs.declared.strict.Role.the-variants as role
 use Rattle.image.specs.Content.{Object, Content, numbers, objectBytes, objectsBytes, written}
 use Rattle.image.specs.Steps.{bind, collect}
 use Rattle.image.specs.Read.{refuse, located, numberAt, startOf, signAt, countsAt, noted, judged, placed, State, valueAt, rootRole, bodyRole, rootsAt, bodyAt, objectAt, objectsAt, finished, read}
-use Rattle.image.specs.Stage.{Admitted, greatest, greatestOf, Numbered, Ordered, WellNumbered}
+use Rattle.image.specs.Numbering.{Admitted, greatest, greatestOf, Numbered, Ordered, WellNumbered}
 use Rattle.image.proofs.Runs.{bind-ok, cond-ok, ok-is, Runs, collect-runs}
 use Rattle.image.proofs.Stages.{rootStep, bodyStep, objectStep}
 

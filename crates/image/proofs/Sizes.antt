@@ -15,7 +15,8 @@ use Rattle.image.specs.declared.refusals.Refusal.{Refusal}
 use Rattle.image.specs.declared.strict.Summary.{Summary}
 use Rattle.image.specs.Content.{Object, Content, numbers, objectBytes, objectsBytes, written, words}
 use Rattle.image.specs.Read.{read}
-use Rattle.image.specs.Stage.{Ordered, summarised, WithinBytes}
+use Rattle.image.specs.Numbering.{Ordered}
+use Rattle.image.specs.Stage.{summarised, WithinBytes}
 use Rattle.image.proofs.Exact.{exact}
 use Rattle.image.proofs.Places.{Inside, read-inside}
 

@@ -22,7 +22,7 @@ use Rattle.image.specs.declared.strict.Role.the-variants as role
 use Rattle.image.specs.Content.{Object, Content, numbers, objectBytes, objectsBytes, written}
 use Rattle.image.specs.Steps.{bind, collect}
 use Rattle.image.specs.Read.{numberAt, noted, judged, State, valueAt, bodyRole, bodyAt, objectAt, objectsAt}
-use Rattle.image.specs.Stage.{Admitted, greatest, greatestOf, Numbered, Ordered}
+use Rattle.image.specs.Numbering.{Admitted, greatest, greatestOf, Numbered, Ordered}
 use Rattle.image.proofs.Numbers.{number-ok}
 use Rattle.image.proofs.Runs.{Runs, runs-collect}
 use Rattle.image.proofs.Stages.{value-ok, bodyStep, objectStep, object-ok}

@@ -2,3 +2,4 @@ pub mod Content
 pub mod Steps
 pub mod Read
 pub mod Stage
+pub mod Numbering

@@ -2,6 +2,7 @@
 ghost use Prim.Native.Nat.{ℕ};
 ghost use Rattle.image.specs.Read.{faultPlace, numberAt, startOf};
 ghost use Rattle.image.specs.Stage.{Follows};
+ghost use Rattle.std.specs.Results.{Cases as ByOk};
 ghost use mathlib.Core.Path.{_≡_};
 use crate::refusals::Fault;
 use crate::refusals::Refusal;
@@ -58,6 +59,7 @@ impl<'a> Reader<'a> {
     pub fn number(&mut self, object: u32) -> Result<u32, Refusal>
         ensures value { λ r. ⌜ Follows r (numberAt (now (now (self .entry) .bytes)) object (now (self .entry) .position)) (λ v p. (p .value ≡ v) × (p .next ≡ now (self .exit) .position)) ⌝ }
         ensures same { λ r. ⌜ now (now (self .exit) .bytes) ≡ now (now (self .entry) .bytes) ⌝ }
+        ensures stays { λ r. ⌜ ByOk r (λ _. Unit {0}) (λ _. now (self .exit) .position ≡ now (self .entry) .position) ⌝ }
     {
         match leb128::read(self.bytes, self.position) {
             Ok(number) => {

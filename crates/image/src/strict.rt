@@ -2,7 +2,8 @@
 ghost use Prim.Native.Nat.{ℕ, _*_, _+_, _<_, _≤_};
 ghost use Rattle.image.specs.Content.{headers, words};
 ghost use Rattle.image.specs.Read.{bodyAt, bodyRole, countsAt, judged, objectAt, objectsAt, read, rootRole, rootsAt, signAt, valueAt};
-ghost use Rattle.image.specs.Stage.{Exact, Follows, WithinBytes, headersOf, summarised, summaryOf};
+ghost use Rattle.image.specs.Numbering.{Exact};
+ghost use Rattle.image.specs.Stage.{Follows, WithinBytes, headersOf, summarised, summaryOf};
 ghost use Rattle.std.specs.Iters.{folded};
 ghost use Rattle.std.specs.Vec.{made};
 ghost use mathlib.Core.Path.{_≡_};

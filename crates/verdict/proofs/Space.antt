@@ -20,7 +20,8 @@ use Rattle.image.specs.declared.refusals.Refusal.{Refusal}
 use Rattle.image.specs.declared.strict.Summary.{Summary}
 use Rattle.image.specs.Content.{Object, Content, headers, words}
 use Rattle.image.specs.Read.{read}
-use Rattle.image.specs.Stage.{Ordered, Exact, WithinBytes, summarised}
+use Rattle.image.specs.Numbering.{Ordered, Exact}
+use Rattle.image.specs.Stage.{WithinBytes, summarised}
 use Rattle.verdict.specs.declared.placement.Placement.{Placement}
 use Rattle.verdict.specs.declared.placement.Placement.the-variants as placement
 use Rattle.verdict.specs.declared.Verdict.{Verdict}
