@@ -1,13 +1,15 @@
 -- Each fault comes exactly on its condition: both the reader and the condition go along the bytes
 -- with the top bit set, and part at the first byte without it or at the fifth.
-use mathlib.Core.Path.{_≡_, refl, sym, ap, subst, _∙_}
+use mathlib.Core.Path.{_≡_, refl, sym, ap, ap₂, subst, _∙_}
 use mathlib.Core.Logic.{_↔_, _⊎_, inl, inr, ⊎-elim}
 use mathlib.Core.List.{List, [], _∷_}
 use mathlib.Core.Bool.{cond, _&&_}
-use Prim.Native.Nat.{ℕ, zero, suc, _+_, _-_, _≤_, _<_}
+use Prim.Native.Nat.{ℕ, zero, suc, _+_, _-_, _*_, _≤_, _<_}
 use native.Mathlib.Omega.{arith}
 use lib.Dec.{eqb, ltb}
-use lib.ListN.{length, getD, take, drop}
+use lib.ListN.{length, getD, take, drop, length-drop}
+use lib.Seq.{getD-drop}
+use native.Mathlib.Nat.{add-zero}
 use Rattle.std.proofs.shelf.Lists.{take-rest, drop-all}
 use Rattle.std.proofs.shelf.Ways.{tells}
 use Rattle.std.proofs.shelf.Tests.{cond-both}
@@ -18,7 +20,7 @@ use Rattle.leb128.specs.declared.Fault.the-variants.{EndsEarly, NotShortest, T
 use Rattle.leb128.specs.declared.Number.{Number}
 use Rattle.leb128.specs.Number.{Decoded, joined, follow, decode, from, readAt}
 use Rattle.leb128.specs.Laws.{Continue, Fails, FaultsExactly, Reading}
-use Rattle.leb128.proofs.Steps.{Bytes, follow-zero, follow-wide, follow-more, decode-more}
+use Rattle.leb128.proofs.Steps.{Bytes, follow-zero, follow-wide, follow-more, decode-one, decode-two, decode-more, decode-follow}
 use Rattle.leb128.proofs.Laws.{reads-back, canonical}
 
 -- the condition of a fault among the bytes after the first, of which `left` may follow the next
@@ -141,9 +143,31 @@ pub read-past : (bs : List ℕ) (at : ℕ) → length bs ≤ at → Err EndsEarl
 unfolding readAt
 read-past bs at h = rw (drop-all at bs h)
 
-pub read-part : (bs : List ℕ) (at : ℕ) (r : Decoded) → r ≡ decode (take (length bs - at) (drop at bs)) → from at r ≡ readAt bs at
+first-at : (bs : List ℕ) (at : ℕ) → at < length bs → (1 ≤ length (drop at bs)) × (getD (drop at bs) 0 0 ≡ getD bs at 0)
+first-at bs at h = (simp length-drop (omega arith), getD-drop at bs 0 0 ∙ ap (λ i. getD bs i 0) (add-zero at))
+
+pub read-one : (bs : List ℕ) (at : ℕ) → at < length bs → getD bs at 0 < 128 → Ok (record { value = getD bs at 0; next = at + 1 }) ≡ readAt bs at
 unfolding readAt
-read-part bs at r e = ap (from at) (e ∙ ap decode (take-rest bs at))
+read-one bs at h l =
+    let f = first-at bs at h in
+    let e : Ok (getD bs at 0, 1) ≡ decode (drop at bs) = subst (λ v. Ok (v, 1) ≡ decode (drop at bs)) (f .1) (decode-one (drop at bs) (f .0) (omega (arith, f .1))) in
+    ap (from at) e
+
+pub read-two : (bs : List ℕ) (at : ℕ) → at + 1 < length bs → 128 ≤ getD bs at 0 → 0 < getD bs (at + 1) 0 → getD bs (at + 1) 0 < 128 →
+    Ok (record { value = getD bs at 0 - 128 + 128 * getD bs (at + 1) 0; next = at + 2 }) ≡ readAt bs at
+unfolding readAt
+read-two bs at h b p l =
+    let f = first-at bs at (omega arith) .1 in
+    let s : getD (drop at bs) 1 0 ≡ getD bs (at + 1) 0 = getD-drop at bs 1 0 in
+    let two : Ok (getD (drop at bs) 0 0 - 128 + 128 * getD (drop at bs) 1 0, 2) ≡ decode (drop at bs) =
+    decode-two (drop at bs) (simp length-drop (omega arith)) (omega arith) (omega arith) (omega arith) in
+    ap (from at) (ap₂ (λ x y. Ok (x - 128 + 128 * y, 2)) (sym f) (sym s) ∙ two)
+
+pub read-several : (bs : List ℕ) (at : ℕ) (r : Decoded) → at < length bs → 128 ≤ getD bs at 0 → r ≡ follow (take (length bs - at) (drop at bs)) 4 → from at r ≡ readAt bs at
+unfolding readAt
+read-several bs at r h b e =
+    let f = first-at bs at h in
+    ap (from at) (e ∙ ap (λ xs. follow xs 4) (take-rest bs at) ∙ decode-follow (drop at bs) (f .0) (omega (arith, f .1)))
 
 -- all the laws, of whatever is `readAt`
 pub reading : (bs : List ℕ) (at : ℕ) (r : Result Number Fault) → Bytes bs → r ≡ readAt bs at → Reading bs at r

@@ -27,7 +27,7 @@ joined-bounded : (b left : ℕ) (r : Decoded) → b < 256 → 0 < left → left 
 joined-bounded b left (Ok p) lt h k s = (grind (arith, tells), omega arith, omega arith)
 joined-bounded b left (Err f) lt h k s = tt
 
-pub follow-bounded : (bs : List ℕ) (left : ℕ) → Bytes bs → left ≤ 3 → Bounded left (follow bs left)
+pub follow-bounded : (bs : List ℕ) (left : ℕ) → Bytes bs → left ≤ 4 → Bounded left (follow bs left)
 follow-bounded [] left ty k = tt
 follow-bounded (b ∷ bs) left ty k =
     let P : Decoded → Type 0 = Bounded left in
@@ -37,12 +37,6 @@ follow-bounded (b ∷ bs) left ty k =
     (λ t.
     let up : 0 < left = grind (arith, tells) in
     joined-bounded b left (follow bs (left - 1)) (ty 0) up (omega arith) (follow-bounded bs (left - 1) (λ i. ty (suc i)) (omega arith)))))
-
-pub decode-bounded : (bs : List ℕ) → Bytes bs → Bounded 4 (decode bs)
-decode-bounded [] ty = tt
-decode-bounded (b ∷ bs) ty =
-    cond-both (ltb b 128) _ _ (Bounded 4) (λ t. (grind (arith, tells), omega arith, omega arith))
-    (λ t. joined-bounded b 4 (follow bs 3) (ty 0) (omega arith) (omega arith) (follow-bounded bs 3 (λ i. ty (suc i)) (omega arith)))
 
 pub follow-none : (bs : List ℕ) (left : ℕ) → length bs < 1 → follow bs left ≡ Err EndsEarly
 follow-none [] left h = refl
@@ -66,28 +60,32 @@ pub decode-more : (bs : List ℕ) → 1 ≤ length bs → 128 ≤ getD bs 0 0 �
 decode-more [] h b = absurd (omega arith)
 decode-more (x ∷ bs) h b = grind (arith, tells)
 
+pub decode-one : (bs : List ℕ) → 1 ≤ length bs → getD bs 0 0 < 128 → Ok (getD bs 0 0, 1) ≡ decode bs
+decode-one [] h l = absurd (omega arith)
+decode-one (b ∷ bs) h l = grind (arith, tells)
+
+pub decode-two : (bs : List ℕ) → 2 ≤ length bs → 128 ≤ getD bs 0 0 → 0 < getD bs 1 0 → getD bs 1 0 < 128 →
+    Ok (getD bs 0 0 - 128 + 128 * getD bs 1 0, 2) ≡ decode bs
+decode-two [] h a p l = absurd (omega arith)
+decode-two (x ∷ []) h a p l = absurd (omega arith)
+decode-two (x ∷ y ∷ bs) h a p l = grind (arith, tells)
+
+-- a number of several bytes, from its first one on
+pub decode-follow : (bs : List ℕ) → 1 ≤ length bs → 128 ≤ getD bs 0 0 → follow bs 4 ≡ decode bs
+decode-follow bs h b = follow-more bs 4 h b (omega arith) ∙ sym (decode-more bs h b)
+
 -- the same with the rest of the bytes as a slice pattern names it
 pub follow-rest : (bs : List ℕ) (left : ℕ) (r : Decoded) → 1 ≤ length bs → 128 ≤ getD bs 0 0 → 0 < left →
     r ≡ follow (take (length bs - 1) (drop 1 bs)) (left - 1) → joined (getD bs 0 0) r ≡ follow bs left
 follow-rest bs left r h b k e =
     ap (joined (getD bs 0 0)) (e ∙ ap (λ x. follow x (left - 1)) (take-rest bs 1)) ∙ sym (follow-more bs left h b k)
 
-pub decode-rest : (bs : List ℕ) (r : Decoded) → 1 ≤ length bs → 128 ≤ getD bs 0 0 →
-    r ≡ follow (take (length bs - 1) (drop 1 bs)) 3 → joined (getD bs 0 0) r ≡ decode bs
-decode-rest bs r h b e =
-    ap (joined (getD bs 0 0)) (e ∙ ap (λ x. follow x 3) (take-rest bs 1)) ∙ sym (decode-more bs h b)
-
 -- values as the code has them
-pub follow-fits : (bs : List ℕ) (left v n : ℕ) → Bytes bs → left ≤ 3 → Ok (v, n) ≡ follow bs left → (v < 2 ^ 32 - 256) × (n ≤ 4)
+pub follow-fits : (bs : List ℕ) (left v n : ℕ) → Bytes bs → left ≤ 4 → Ok (v, n) ≡ follow bs left → (v < 2 ^ 32) × (n ≤ 5)
 follow-fits bs left v n ty k e =
     let s : Bounded left (Ok (v, n)) = subst (Bounded left) (sym e) (follow-bounded bs left ty k) in
     let low : v < limit left = s .0 in
     (grind (arith, tells), omega (arith, s .2))
-
-pub decode-fits : (bs : List ℕ) (v n : ℕ) → Bytes bs → Ok (v, n) ≡ decode bs → (v < 2 ^ 32) × (n ≤ 5)
-decode-fits bs v n ty e =
-    let s : Bounded 4 (Ok (v, n)) = subst (Bounded 4) (sym e) (decode-bounded bs ty) in
-    (s .0, omega (arith, s .2))
 
 pub groups-one : (left n : ℕ) → n < 128 → groups left n ≡ n ∷ []
 groups-one zero n h = refl

@@ -38,9 +38,10 @@ pub struct Number {
     pub next: usize,
 }
 
-// The bytes after the first one, of which `left` may follow the next: their value and length.
+// The bytes of a number from one of them on, of which `left` may follow the next: their value and
+// length. The first byte of a number of several is not 0, and four may follow it.
 fn read_following(bytes: &[u8], left: u32) -> Result<(u32, usize), Fault>
-    requires { ⌜ left ≤ 3 ⌝ }
+    requires { ⌜ left ≤ 4 ⌝ }
     ensures { λ r. ⌜ r ≡ follow (now (bytes .entry)) left ⌝ }
 {
     match bytes {
@@ -62,24 +63,8 @@ fn read_following(bytes: &[u8], left: u32) -> Result<(u32, usize), Fault>
     }
 }
 
-// The number at the start of `bytes`: its value and length.
-fn read_first(bytes: &[u8]) -> Result<(u32, usize), Fault>
-    ensures { λ r. ⌜ r ≡ decode (now (bytes .entry)) ⌝ }
-{
-    match bytes {
-        [] => Err(Fault::EndsEarly),
-        [byte, rest @ ..] => {
-            let byte = *byte;
-            if byte < 128 {
-                return Ok((u32::from(byte), 1));
-            }
-            let (value, length) = read_following(rest, 3)?;
-            Ok((u32::from(byte - 128) + 128 * value, length + 1))
-        }
-    }
-}
-
-/// Reads the number at the position `at`.
+/// Reads the number at the position `at`. Most numbers have one or two bytes, so these are looked at
+/// first.
 pub fn read(bytes: &[u8], at: usize) -> Result<Number, Fault>
     ensures value { λ r. ⌜ r ≡ readAt (now (bytes .entry)) at ⌝ }
     ensures laws { λ r. ⌜ Reading (now (bytes .entry)) at r ⌝ }
@@ -87,7 +72,24 @@ pub fn read(bytes: &[u8], at: usize) -> Result<Number, Fault>
     if at >= bytes.len() {
         return Err(Fault::EndsEarly);
     }
-    let (value, length) = read_first(&bytes[at..])?;
+    let byte = bytes[at];
+    if byte < 128 {
+        return Ok(Number {
+            value: u32::from(byte),
+            next: at + 1,
+        });
+    }
+    if at + 1 < bytes.len() {
+        let second = bytes[at + 1];
+        if second < 128 && second > 0 {
+            let value = u32::from(byte - 128) + 128 * u32::from(second);
+            return Ok(Number {
+                value,
+                next: at + 2,
+            });
+        }
+    }
+    let (value, length) = read_following(&bytes[at..], 4)?;
     Ok(Number {
         value,
         next: at + length,

@@ -24,7 +24,7 @@ whole t c =
     follow-rest (c .args .bytes .now) (c .args .left) (Ok (c .in-Continue-value .value, c .in-Continue-value .length)) (search needs) (omega arith) up (c .in-Continue-value .ensures tt)
 
 fits : (t : ℕ) (c : need.After-from-in-len1-up t) →
-    (getD (c .args .bytes .now) 0 0 - 128 + 128 * c .in-Continue-value .value < 2 ^ 32 - 256) × (c .in-Continue-value .length + 1 ≤ 4)
+    (getD (c .args .bytes .now) 0 0 - 128 + 128 * c .in-Continue-value .value < 2 ^ 32) × (c .in-Continue-value .length + 1 ≤ 5)
 fits t c = follow-fits (c .args .bytes .now) (c .args .left) _ _ (λ i. omega (arith, c .typed .bytes i)) (c .pre) (whole t c)
 
 pub mul-result : need.mul-result
