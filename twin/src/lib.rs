@@ -1,10 +1,13 @@
 //! A second implementation of what `docs/` describes, written from those documents alone.
 //! It serves as a comparison for the first one: same answers, and a measure of speed.
 
+pub mod bits;
 pub mod campus;
 pub mod image;
 pub mod inputs;
 pub mod layouts;
 pub mod numbers;
+pub mod policies;
 pub mod random;
+pub mod stores;
 pub mod topocheck;

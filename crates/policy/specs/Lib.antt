@@ -1,0 +1,3 @@
+pub mod Order
+pub mod Keyed
+pub mod Choice
