@@ -23,7 +23,10 @@ fn check(bytes: &[u8]) -> Answer {
     match unsafe { topology_check(bytes.as_ptr(), bytes.len()) } {
         0 => Answer::Accepted,
         255 => Answer::TooLong,
-        answer => Answer::Refused { fault: answer % 256, place: answer / 256 },
+        answer => Answer::Refused {
+            fault: answer % 256,
+            place: answer / 256,
+        },
     }
 }
 

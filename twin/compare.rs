@@ -1,9 +1,9 @@
-//! Compares the library's `topology_check` with the answers of twin.
+//! Compares the library's `topology_check`, and its sets of numbers, with the answers of twin.
 //!
-//! Built with DIR for what is built here and LIBDIR for the directory of libhost.a:
+//! Built with DIR for what is built here and LIBDIR for the directory of libhost.a and libbitset_bench.a:
 //!
 //!     rustc --edition 2021 -O --crate-type rlib --crate-name twin -o DIR/libtwin.rlib twin/src/lib.rs
-//!     rustc --edition 2021 -O --extern twin=DIR/libtwin.rlib -L native=LIBDIR -l static=host -o DIR/compare twin/compare.rs
+//!     rustc --edition 2021 -O --extern twin=DIR/libtwin.rlib -L native=LIBDIR -l static=host -l static=bitset_bench -o DIR/compare twin/compare.rs
 //!
 //! Run as `compare [INPUTS] [SEED] [TOPOCHECK]`, by default with 200000 inputs and seed 1. With
 //! the path of the program topocheck, the lines it prints are compared too. The exit status is 0
@@ -16,6 +16,7 @@ use std::fmt;
 use std::io::{ErrorKind, Write};
 use std::process::{Command, ExitCode, Output, Stdio};
 
+use twin::bit_work;
 use twin::inputs::{self, Input, Inputs, Origin};
 use twin::topocheck;
 
@@ -27,6 +28,9 @@ const ALL_NUMBERS: [u64; 12] = [0, 10, 11, 12, 13, 14, 15, 16, 17, 18, 19, 255];
 
 unsafe extern "C" {
     fn topology_check(bytes: *const u8, len: usize) -> u64;
+    safe fn bitset_drain(seed: u64, tries: u64, rounds: u64) -> u64;
+    safe fn bitset_sweep(seed: u64, tries: u64, rounds: u64) -> u64;
+    safe fn bitset_ask(seed: u64, tries: u64, rounds: u64) -> u64;
 }
 
 /// The answer of the library.
@@ -131,6 +135,42 @@ fn all_numbers_came(tally: &Tally<u64>) -> Result<(), String> {
         Some(number) => Err(format!("compare: no input was answered by {number}")),
         None => Ok(()),
     }
+}
+
+/// Compares the checksums of work on sets of numbers; answers how many were compared.
+fn compare_sets(seed: u64) -> Result<usize, String> {
+    let mut compared = 0;
+    for tries in [0, 1, 40, 1_000, 22_000, 200_000] {
+        for seed in seed..seed + 20 {
+            let pairs = [
+                (
+                    "drain",
+                    bitset_drain(seed, tries, 2),
+                    bit_work::drain(seed, tries, 2),
+                ),
+                (
+                    "sweep",
+                    bitset_sweep(seed, tries, 2),
+                    bit_work::sweep(seed, tries, 2),
+                ),
+                (
+                    "ask",
+                    bitset_ask(seed, tries, 2),
+                    bit_work::ask(seed, tries, 2),
+                ),
+            ];
+            for (name, library, twin) in pairs {
+                if library != twin {
+                    return Err(format!(
+                        "difference: {name} of a set, seed {seed}, {tries} inserts: \
+                         library {library}, twin {twin}"
+                    ));
+                }
+                compared += 1;
+            }
+        }
+    }
+    Ok(compared)
 }
 
 /// The kinds of lines that topocheck prints.
@@ -250,6 +290,8 @@ impl Task {
         if self.inputs >= DEFAULT_INPUTS {
             all_numbers_came(&tally)?;
         }
+        let compared = compare_sets(self.seed)?;
+        println!("compare: {compared} runs on sets of numbers, no difference");
         if let Some(program) = &self.program {
             let inputs = inputs::program_inputs(self.seed);
             let count = inputs.len();

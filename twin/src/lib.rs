@@ -1,6 +1,7 @@
 //! A second implementation of what `docs/` describes, written from those documents alone.
 //! It serves as a comparison for the first one: same answers, and a measure of speed.
 
+pub mod bit_work;
 pub mod bits;
 pub mod campus;
 pub mod image;

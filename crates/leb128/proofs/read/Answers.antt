@@ -43,5 +43,5 @@ pub returns-then-second-gt0 : need.returns-then-second-gt0
 returns-then-second-gt0 c =
     let two = read-two (c .args .bytes .now) (c .args .at) (omega arith) (omega arith) (omega arith) (omega arith) in
     let e : Ok (record { value = c .from-then-second-gt0 .result + 128 * c .from-then-second-gt0-2 .result; next = c .args .at + 2 }) ≡ readAt (c .args .bytes .now) (c .args .at) =
-        cc (two, c .from-then-second-gt0 .ensures, c .from-then-second-gt0-2 .ensures) in
+    cc (two, c .from-then-second-gt0 .ensures, c .from-then-second-gt0-2 .ensures) in
     record { value = e; laws = reading (c .args .bytes .now) (c .args .at) _ (λ i. omega (arith, c .typed .bytes i)) e }

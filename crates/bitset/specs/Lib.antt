@@ -1,0 +1,3 @@
+pub mod Set
+pub mod Digit
+pub mod Members
