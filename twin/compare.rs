@@ -5,7 +5,7 @@
 //!     rustc --edition 2021 -O --crate-type rlib --crate-name twin -o DIR/libtwin.rlib twin/src/lib.rs
 //!     rustc --edition 2021 -O --extern twin=DIR/libtwin.rlib -L native=LIBDIR -l static=host -l static=bitset_bench -o DIR/compare twin/compare.rs
 //!
-//! Run as `compare [INPUTS] [SEED] [TOPOCHECK]`, by default with 200000 inputs and seed 1. With
+//! Run as `compare [INPUTS] [SEED] [TOPOCHECK]`, by default with 200000 inputs and a seed of 1. With
 //! the path of the program topocheck, the lines it prints are compared too. The exit status is 0
 //! if there is no difference, 1 if there is one or a run fails, and 2 if the arguments are wrong.
 

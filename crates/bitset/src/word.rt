@@ -20,49 +20,49 @@ fn bits_below(i: usize) -> u64
 }
 
 /// Whether `x` has the bit of `i`.
-pub fn has(x: u64, i: usize) -> bool
+pub(crate) fn has(x: u64, i: usize) -> bool
     ensures { λ r. ⌜ r ≡ eqb (bitAnd (x / 2 ^ (i % 64)) 1) 1 ⌝ }
 {
     (x >> (i % 64)) & 1 == 1
 }
 
 /// `x` with the bit of `i`.
-pub fn with(x: u64, i: usize) -> u64
+pub(crate) fn with(x: u64, i: usize) -> u64
     ensures { λ r. ⌜ r ≡ bitOr x (2 ^ (i % 64)) ⌝ }
 {
     x | bit(i)
 }
 
 /// `x` without the bit of `i`.
-pub fn without(x: u64, i: usize) -> u64
+pub(crate) fn without(x: u64, i: usize) -> u64
     ensures { λ r. ⌜ r ≡ bitAnd x ((2 ^ 64 - 1) - 2 ^ (i % 64)) ⌝ }
 {
     x & !bit(i)
 }
 
 /// The bits of `x` below that of `i`.
-pub fn below(x: u64, i: usize) -> u64
+pub(crate) fn below(x: u64, i: usize) -> u64
     ensures { λ r. ⌜ r ≡ bitAnd x (2 ^ (i % 64) - 1) ⌝ }
 {
     x & bits_below(i)
 }
 
 /// The bits of `x` from that of `i` on.
-pub fn from(x: u64, i: usize) -> u64
+pub(crate) fn from(x: u64, i: usize) -> u64
     ensures { λ r. ⌜ r ≡ bitAnd x ((2 ^ 64 - 1) - (2 ^ (i % 64) - 1)) ⌝ }
 {
     x & !bits_below(i)
 }
 
 /// The place of the lowest bit of `x`, 64 if it has none.
-pub fn lowest(x: u64) -> usize
+pub(crate) fn lowest(x: u64) -> usize
     ensures { λ r. ⌜ r ≡ trailingZeros 64 x ⌝ }
 {
     x.trailing_zeros() as usize
 }
 
 /// How many bits `x` has.
-pub fn size(x: u64) -> u32
+pub(crate) fn size(x: u64) -> u32
     ensures { λ r. ⌜ r ≡ ones x ⌝ }
 {
     x.count_ones()

@@ -268,7 +268,8 @@ fn read_image<L: Layout, V: Visitor>(bytes: &[u8], visitor: &mut V) -> Result<Su
     })
 }
 
-/// Checks an image of the layout `L` strictly and tells each of its objects to the visitor.
+/// Checks an image of the layout `L` strictly and tells each of its objects to the visitor. If the
+/// image is refused, what the visitor was told is left open.
 pub fn visit<L: Layout, V: Visitor>(bytes: &[u8], visitor: &mut V) -> Result<Summary, Refusal>
     ensures reads { λ r. ⌜ r ≡ summarised (L·Layout .shape) (read (L·Layout .shape) (now (bytes .entry))) ⌝ }
     ensures told { λ r. ⌜ made r (λ _. now (visitor .exit) ≡ folded (V·Visitor .next) (now (visitor .entry)) (headersOf (read (L·Layout .shape) (now (bytes .entry))))) ⌝ }
