@@ -1,7 +1,7 @@
 /* Checks the topology file named on the command line.
 
-   rt staticlib host
-   cc -Iinclude examples/check.c target/staticlib/libhost.a -o target/check_c
+   (cd crates/host && rt lib) && mkdir -p target
+   cc -Iinclude examples/check.c crates/host/out/libhost.a -o target/check_c
    target/check_c samples/campus.cm */
 #include "topology_check.h"
 

@@ -1,7 +1,7 @@
 //! Checks the topology file named on the command line.
 //!
-//!     rt staticlib host
-//!     rustc --edition 2021 -O examples/check.rs -L native=target/staticlib -l static=host -o target/check_rs
+//!     (cd crates/host && rt lib) && mkdir -p target
+//!     rustc --edition 2021 -O examples/check.rs -L native=crates/host/out -l static=host -o target/check_rs
 //!     target/check_rs samples/campus.cm
 
 use std::process::ExitCode;
