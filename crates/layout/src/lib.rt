@@ -1,5 +1,7 @@
 //! What the header word of an object says: whether it is legal, how many words the object has, and which of them are
 //! references.
+#![tactic(auto)]
+
 mod cabling;
 mod counted;
 
@@ -48,7 +50,7 @@ pub trait Layout {
 /// Whether the word at `position` of an object under `header` is plain: it stands after the header, and is no reference.
 /// Never where `header` is not legal.
 pub fn is_plain<L: Layout>(header: u32, position: u32) -> bool
-    ensures { result ≡ plain shape header position }
+    ensures { result ≡ plain L.shape header position }
 {
     position >= 1 && position < L::size(header) && !L::is_reference(header, position)
 }
