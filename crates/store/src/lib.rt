@@ -1,4 +1,6 @@
 //! Stores: lists of 32-bit words of fixed length, each read and written at an index.
+#![tactic(auto)]
+
 mod bytes;
 mod words;
 
@@ -39,7 +41,7 @@ pub trait Store {
 
 /// The word at `index`, or 0 where `index` lies outside.
 pub fn word_or_zero<S: Store>(store: &S, index: u32) -> u32
-    ensures { result ≡ slice_index (words store.now) index }
+    ensures { result ≡ slice_index (S.words store.now) index }
 {
     match store.read(index as usize) {
         Ok(word) => word,

@@ -5,4 +5,4 @@ use Rattle.store.proofs.bytes.ByteStoreStore.read.Goals as goal
 
 pub returns : goal.returns
 returns c =
-    c.read-word.ensures ∙ ap (λ bs. word_read bs c.args.index) c.as-slice.ensures.value ∙ read-words _ _
+    c.read_word.ensures ∙ ap (λ bs. word_read bs c.args.index) c.as_slice.ensures.value ∙ read-words _ _

@@ -9,11 +9,11 @@ returns c =
     let v = c.args.self.now.bytes in
     let i = c.args.index in
     let w = c.args.word in
-    let lent = c.as-mut-slice.ensures.value in
-    let long : length c.write-word.new.bytes ≡ v.len = search rules in
-    let is = with_items_is v c.write-word.new.bytes long ∙ c.write-word.ensures.after ∙ ap (λ bs. word_written bs i w) lent in
+    let lent = c.as_mut_slice.ensures.value in
+    let long : length c.write_word.new.bytes ≡ v.len = search rules in
+    let is = with_items_is v c.write_word.new.bytes long ∙ c.write_word.ensures.after ∙ ap (λ bs. word_written bs i w) lent in
     record {
-      answer = c.write-word.ensures.answer ∙ ap (λ bs. word_done bs i) lent ∙ done-words (vec_items v) i;
+      answer = c.write_word.ensures.answer ∙ ap (λ bs. word_done bs i) lent ∙ done-words (vec_items v) i;
       after = ap words_of is ∙ words-written (vec_items v) i w;
       spare = ap spare_of is ∙ spare-written (vec_items v) i w;
     }
