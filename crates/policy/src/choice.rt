@@ -8,7 +8,7 @@ use crate::{Policy, Summary};
 /// The place, from `from` on, of a candidate that no other from there on comes before.
 fn best_from<P: Policy>(policy: &P, candidates: &[Summary], from: usize) -> usize
     requires { from < length candidates.now }
-    ensures { FirstOf (before policy.now) candidates.now from (length candidates.now) result }
+    ensures { FirstOf (P.before policy.now) candidates.now from (length candidates.now) result }
 {
     let mut best = from;
     for place in from + 1..candidates.len() {
@@ -23,7 +23,7 @@ fn best_from<P: Policy>(policy: &P, candidates: &[Summary], from: usize) -> usiz
 fn bring_best<P: Policy>(policy: &P, candidates: &mut [Summary], place: usize)
     requires { place < length candidates.old }
     ensures same { IsPermutation candidates.old candidates.new }
-    ensures brought { Brought (before policy.now) candidates.old place candidates.new }
+    ensures brought { Brought (P.before policy.now) candidates.old place candidates.new }
 {
     let best = best_from(policy, candidates, place);
     candidates.swap(place, best);
@@ -37,7 +37,7 @@ fn bring_best<P: Policy>(policy: &P, candidates: &mut [Summary], place: usize)
 pub fn choose<P: Policy>(policy: &P, candidates: &mut [Summary], count: usize) -> usize
     ensures number { result ≡ min count (length candidates.old) }
     ensures same { IsPermutation candidates.old candidates.new }
-    ensures first { Apart candidates.old → Leads (before policy.now) result candidates.new }
+    ensures first { Apart candidates.old → Leads (P.before policy.now) result candidates.new }
 {
     let chosen = count.min(candidates.len());
     for place in 0..chosen {
@@ -49,5 +49,5 @@ pub fn choose<P: Policy>(policy: &P, candidates: &mut [Summary], count: usize) -
 /// Does nothing. Its contract says that the choice is determined: where candidates of different regions are put in two orders,
 /// each with the first of them by the policy in front, the two begin alike.
 pub fn one_choice<P: Policy>(_policy: &P)
-    ensures { OneChoice (before _policy.now) }
+    ensures { OneChoice (P.before _policy.now) }
 {}

@@ -1,5 +1,7 @@
 //! Which regions a collection takes first: policies as orders on the summaries of regions, and the choice of the first few
 //! by any policy.
+#![tactic(auto)]
+
 mod choice;
 mod keyed;
 

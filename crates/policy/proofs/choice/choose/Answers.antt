@@ -10,10 +10,10 @@ loop-place-preserved g c =
     let policy = c.args.policy.now in
     let start = c.args.candidates.now in
     let xs = c.loop-place.candidates in
-    let ys = c.bring-best.new.candidates in
+    let ys = c.bring_best.new.candidates in
     let inv = c.loop-place.invariant in (
-      IsPermutation-trans start xs ys inv.0 c.bring-best.ensures.same,
+      IsPermutation-trans start xs ys inv.0 c.bring_best.ensures.same,
       λ apart.
           leads_more (g.P.Policy.before policy) (g.met.P.Policy.ordered policy) xs ys c.loop-place.place (omega arith)
-          c.bring-best.ensures.brought (apart_shuffled start xs inv.0 apart) (inv.1 apart),
+          c.bring_best.ensures.brought (apart_shuffled start xs inv.0 apart) (inv.1 apart),
     )

@@ -3,4 +3,4 @@ use Rattle.policy.proofs.OneChoice.{one_choice}
 use Rattle.policy.proofs.choice.one_choice.Goals as goal
 
 pub returns : goal.returns
-returns g c = one_choice _ (g.met.P.Policy.ordered c.args.-policy.now)
+returns g c = one_choice _ (g.met.P.Policy.ordered c.args._policy.now)
