@@ -1,4 +1,6 @@
 //! What was asked of a heap and what it answered, as lines of text.
+#![tactic(auto)]
+
 mod answered;
 mod asked;
 mod line;

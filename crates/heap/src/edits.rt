@@ -19,8 +19,8 @@ use store::Store;
 impl<S: Store, L: Layout> Heap<S, L> {
     /// A heap without objects on the words of a store. It writes no word.
     pub fn over(store: S) -> Heap<S, L>
-        ensures step { state_of words spare result ≡ making (words store) (spare store) }
-        ensures sound { Sound shape (state_of words spare result) }
+        ensures step { state_of S.words S.spare result ≡ making (S.words store) (S.spare store) }
+        ensures sound { Sound L.shape (state_of S.words S.spare result) }
     {
         Heap {
             memory: Memory::over(store),
@@ -30,11 +30,11 @@ impl<S: Store, L: Layout> Heap<S, L> {
     /// Makes an object with that header and a body of zeros; the root then holds it.
     /// Refused: 1 for a root above 63, 2 for a header that is not legal, 33 where there is no space.
     pub fn new(&mut self, root: u32, header: u32) -> Result<(), Refusal>
-        ensures step { (result, state_of words spare self.new) ≡ new_object shape (state_of words spare self.old) root header }
-        ensures sound { Sound shape (state_of words spare self.old) → Sound shape (state_of words spare self.new) }
-        ensures effect { Sound shape (state_of words spare self.old) → Makes shape (state_of words spare self.old) (state_of words spare self.new) root header result }
-        ensures space { Spaceless shape (state_of words spare self.old) header result }
-        ensures outside { Sound shape (state_of words spare self.old) → Outside (state_of words spare self.old) (state_of words spare self.new) }
+        ensures step { (result, state_of S.words S.spare self.new) ≡ new_object L.shape (state_of S.words S.spare self.old) root header }
+        ensures sound { Sound L.shape (state_of S.words S.spare self.old) → Sound L.shape (state_of S.words S.spare self.new) }
+        ensures effect { Sound L.shape (state_of S.words S.spare self.old) → Makes L.shape (state_of S.words S.spare self.old) (state_of S.words S.spare self.new) root header result }
+        ensures space { Spaceless L.shape (state_of S.words S.spare self.old) header result }
+        ensures outside { Sound L.shape (state_of S.words S.spare self.old) → Outside (state_of S.words S.spare self.old) (state_of S.words S.spare self.new) }
     {
         self.memory.new(root, header)
     }
@@ -42,20 +42,20 @@ impl<S: Store, L: Layout> Heap<S, L> {
     /// Stores what root `k` holds at a reference position of the object at root `i`.
     /// Refused: 1 for a root above 63, 31 if root `i` is nil, 32 if the position holds no reference.
     pub fn set(&mut self, i: u32, position: u32, k: u32) -> Result<(), Refusal>
-        ensures step { (result, state_of words spare self.new) ≡ set_reference shape (state_of words spare self.old) i position k }
-        ensures sound { Sound shape (state_of words spare self.old) → Sound shape (state_of words spare self.new) }
-        ensures effect { Sound shape (state_of words spare self.old) → Sets shape (state_of words spare self.old) (state_of words spare self.new) i position k result }
-        ensures outside { Sound shape (state_of words spare self.old) → Outside (state_of words spare self.old) (state_of words spare self.new) }
+        ensures step { (result, state_of S.words S.spare self.new) ≡ set_reference L.shape (state_of S.words S.spare self.old) i position k }
+        ensures sound { Sound L.shape (state_of S.words S.spare self.old) → Sound L.shape (state_of S.words S.spare self.new) }
+        ensures effect { Sound L.shape (state_of S.words S.spare self.old) → Sets L.shape (state_of S.words S.spare self.old) (state_of S.words S.spare self.new) i position k result }
+        ensures outside { Sound L.shape (state_of S.words S.spare self.old) → Outside (state_of S.words S.spare self.old) (state_of S.words S.spare self.new) }
     {
         self.memory.set(i, position, k)
     }
 
     /// Loads root `k` from a reference position of the object at root `i`. Refused as `set`.
     pub fn get(&mut self, i: u32, position: u32, k: u32) -> Result<(), Refusal>
-        ensures step { (result, state_of words spare self.new) ≡ get_reference shape (state_of words spare self.old) i position k }
-        ensures sound { Sound shape (state_of words spare self.old) → Sound shape (state_of words spare self.new) }
-        ensures effect { Sound shape (state_of words spare self.old) → Gets shape (state_of words spare self.old) (state_of words spare self.new) i position k result }
-        ensures outside { Sound shape (state_of words spare self.old) → Outside (state_of words spare self.old) (state_of words spare self.new) }
+        ensures step { (result, state_of S.words S.spare self.new) ≡ get_reference L.shape (state_of S.words S.spare self.old) i position k }
+        ensures sound { Sound L.shape (state_of S.words S.spare self.old) → Sound L.shape (state_of S.words S.spare self.new) }
+        ensures effect { Sound L.shape (state_of S.words S.spare self.old) → Gets L.shape (state_of S.words S.spare self.old) (state_of S.words S.spare self.new) i position k result }
+        ensures outside { Sound L.shape (state_of S.words S.spare self.old) → Outside (state_of S.words S.spare self.old) (state_of S.words S.spare self.new) }
     {
         self.memory.get(i, position, k)
     }
@@ -63,51 +63,51 @@ impl<S: Store, L: Layout> Heap<S, L> {
     /// Stores a word at a plain position of the object at root `i`.
     /// Refused: 1 for a root above 63, 31 if root `i` is nil, 32 if the position holds no plain word.
     pub fn put(&mut self, i: u32, position: u32, word: u32) -> Result<(), Refusal>
-        ensures step { (result, state_of words spare self.new) ≡ put_word shape (state_of words spare self.old) i position word }
-        ensures sound { Sound shape (state_of words spare self.old) → Sound shape (state_of words spare self.new) }
-        ensures effect { Sound shape (state_of words spare self.old) → Puts shape (state_of words spare self.old) (state_of words spare self.new) i position word result }
-        ensures outside { Sound shape (state_of words spare self.old) → Outside (state_of words spare self.old) (state_of words spare self.new) }
+        ensures step { (result, state_of S.words S.spare self.new) ≡ put_word L.shape (state_of S.words S.spare self.old) i position word }
+        ensures sound { Sound L.shape (state_of S.words S.spare self.old) → Sound L.shape (state_of S.words S.spare self.new) }
+        ensures effect { Sound L.shape (state_of S.words S.spare self.old) → Puts L.shape (state_of S.words S.spare self.old) (state_of S.words S.spare self.new) i position word result }
+        ensures outside { Sound L.shape (state_of S.words S.spare self.old) → Outside (state_of S.words S.spare self.old) (state_of S.words S.spare self.new) }
     {
         self.memory.put(i, position, word)
     }
 
     /// Makes root `k` hold what root `i` holds. Refused: 1 for a root above 63.
     pub fn copy(&mut self, i: u32, k: u32) -> Result<(), Refusal>
-        ensures step { (result, state_of words spare self.new) ≡ copy_root (state_of words spare self.old) i k }
-        ensures sound { Sound shape (state_of words spare self.old) → Sound shape (state_of words spare self.new) }
-        ensures effect { Sound shape (state_of words spare self.old) → Copies (state_of words spare self.old) (state_of words spare self.new) i k result }
-        ensures outside { Sound shape (state_of words spare self.old) → Outside (state_of words spare self.old) (state_of words spare self.new) }
+        ensures step { (result, state_of S.words S.spare self.new) ≡ copy_root (state_of S.words S.spare self.old) i k }
+        ensures sound { Sound L.shape (state_of S.words S.spare self.old) → Sound L.shape (state_of S.words S.spare self.new) }
+        ensures effect { Sound L.shape (state_of S.words S.spare self.old) → Copies (state_of S.words S.spare self.old) (state_of S.words S.spare self.new) i k result }
+        ensures outside { Sound L.shape (state_of S.words S.spare self.old) → Outside (state_of S.words S.spare self.old) (state_of S.words S.spare self.new) }
     {
         self.memory.copy(i, k)
     }
 
     /// Makes root `i` nil. Refused: 1 for a root above 63.
     pub fn clear(&mut self, i: u32) -> Result<(), Refusal>
-        ensures step { (result, state_of words spare self.new) ≡ clear_root (state_of words spare self.old) i }
-        ensures sound { Sound shape (state_of words spare self.old) → Sound shape (state_of words spare self.new) }
-        ensures effect { Sound shape (state_of words spare self.old) → Clears (state_of words spare self.old) (state_of words spare self.new) i result }
-        ensures outside { Sound shape (state_of words spare self.old) → Outside (state_of words spare self.old) (state_of words spare self.new) }
+        ensures step { (result, state_of S.words S.spare self.new) ≡ clear_root (state_of S.words S.spare self.old) i }
+        ensures sound { Sound L.shape (state_of S.words S.spare self.old) → Sound L.shape (state_of S.words S.spare self.new) }
+        ensures effect { Sound L.shape (state_of S.words S.spare self.old) → Clears (state_of S.words S.spare self.old) (state_of S.words S.spare self.new) i result }
+        ensures outside { Sound L.shape (state_of S.words S.spare self.old) → Outside (state_of S.words S.spare self.old) (state_of S.words S.spare self.new) }
     {
         self.memory.clear(i)
     }
 
     /// The word at a plain position of the object at root `i`. Refused as `put`.
     pub fn peek(&self, i: u32, position: u32) -> Result<u32, Refusal>
-        ensures { result ≡ peek_word shape (state_of words spare self.now) i position }
+        ensures { result ≡ peek_word L.shape (state_of S.words S.spare self.now) i position }
     {
         self.memory.peek(i, position)
     }
 
     /// Whether roots `i` and `k` hold the same; nil is the same as nil. Refused: 1 for a root above 63.
     pub fn same(&self, i: u32, k: u32) -> Result<bool, Refusal>
-        ensures { result ≡ same_roots (state_of words spare self.now) i k }
+        ensures { result ≡ same_roots (state_of S.words S.spare self.now) i k }
     {
         self.memory.same(i, k)
     }
 
     /// The header of the object at root `i`. Refused: 1 for a root above 63, 31 if the root is nil.
     pub fn head(&self, i: u32) -> Result<u32, Refusal>
-        ensures { result ≡ head_of (state_of words spare self.now) i }
+        ensures { result ≡ head_of (state_of S.words S.spare self.now) i }
     {
         self.memory.head(i)
     }

@@ -1,4 +1,6 @@
 //! A heap of objects in regions, edited through 64 roots.
+#![tactic(auto)]
+
 mod edits;
 mod heap;
 mod look;

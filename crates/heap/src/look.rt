@@ -11,7 +11,7 @@ use store::Store;
 impl<S: Store, L: Layout> Heap<S, L> {
     /// The words, tables and roots, to look at.
     pub fn memory(&self) -> &Memory<S, L>
-        ensures { view words spare result.now ≡ state_of words spare self.now }
+        ensures { view S.words S.spare result.now ≡ state_of S.words S.spare self.now }
     {
         &self.memory
     }

@@ -18,20 +18,20 @@ use store::Store;
 impl<S: Store, L: Layout> Heap<S, L> {
     /// Begins a marking: what the roots hold is marked and pending, and nothing else is marked. Refused: 34 while marking.
     pub fn begin(&mut self) -> Result<(), Refusal>
-        ensures step { (result, state_of words spare self.new) ≡ begin_step (state_of words spare self.old) }
-        ensures sound { Sound shape (state_of words spare self.old) → Sound shape (state_of words spare self.new) }
-        ensures effect { Sound shape (state_of words spare self.old) → Begins (state_of words spare self.old) (state_of words spare self.new) result }
-        ensures outside { Sound shape (state_of words spare self.old) → Outside (state_of words spare self.old) (state_of words spare self.new) }
+        ensures step { (result, state_of S.words S.spare self.new) ≡ begin_step (state_of S.words S.spare self.old) }
+        ensures sound { Sound L.shape (state_of S.words S.spare self.old) → Sound L.shape (state_of S.words S.spare self.new) }
+        ensures effect { Sound L.shape (state_of S.words S.spare self.old) → Begins (state_of S.words S.spare self.old) (state_of S.words S.spare self.new) result }
+        ensures outside { Sound L.shape (state_of S.words S.spare self.old) → Outside (state_of S.words S.spare self.old) (state_of S.words S.spare self.new) }
     {
         marking::begin(&mut self.memory)
     }
 
     /// Scans the pending object at the lowest place, or ends the marking where none is pending. Refused: 35 if not marking.
     pub fn mark(&mut self) -> Result<Marked, Refusal>
-        ensures step { (result, state_of words spare self.new) ≡ mark_step shape (state_of words spare self.old) }
-        ensures sound { Sound shape (state_of words spare self.old) → Sound shape (state_of words spare self.new) }
-        ensures effect { Sound shape (state_of words spare self.old) → Marks shape (state_of words spare self.old) (state_of words spare self.new) result }
-        ensures outside { Sound shape (state_of words spare self.old) → Outside (state_of words spare self.old) (state_of words spare self.new) }
+        ensures step { (result, state_of S.words S.spare self.new) ≡ mark_step L.shape (state_of S.words S.spare self.old) }
+        ensures sound { Sound L.shape (state_of S.words S.spare self.old) → Sound L.shape (state_of S.words S.spare self.new) }
+        ensures effect { Sound L.shape (state_of S.words S.spare self.old) → Marks L.shape (state_of S.words S.spare self.old) (state_of S.words S.spare self.new) result }
+        ensures outside { Sound L.shape (state_of S.words S.spare self.old) → Outside (state_of S.words S.spare self.old) (state_of S.words S.spare self.new) }
     {
         marking::mark(&mut self.memory)
     }
@@ -39,10 +39,10 @@ impl<S: Store, L: Layout> Heap<S, L> {
     /// Refines the lowest dirty card: it is entered in the table of each other region that its objects refer to, and then
     /// clean. It is never refused.
     pub fn refine(&mut self) -> Refined
-        ensures step { (result, state_of words spare self.new) ≡ refine_step shape (state_of words spare self.old) }
-        ensures sound { Sound shape (state_of words spare self.old) → Sound shape (state_of words spare self.new) }
-        ensures effect { Sound shape (state_of words spare self.old) → Refining shape (state_of words spare self.old) (state_of words spare self.new) result }
-        ensures outside { Sound shape (state_of words spare self.old) → Outside (state_of words spare self.old) (state_of words spare self.new) }
+        ensures step { (result, state_of S.words S.spare self.new) ≡ refine_step L.shape (state_of S.words S.spare self.old) }
+        ensures sound { Sound L.shape (state_of S.words S.spare self.old) → Sound L.shape (state_of S.words S.spare self.new) }
+        ensures effect { Sound L.shape (state_of S.words S.spare self.old) → Refining L.shape (state_of S.words S.spare self.old) (state_of S.words S.spare self.new) result }
+        ensures outside { Sound L.shape (state_of S.words S.spare self.old) → Outside (state_of S.words S.spare self.old) (state_of S.words S.spare self.new) }
     {
         marking::refine(&mut self.memory)
     }

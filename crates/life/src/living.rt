@@ -47,7 +47,7 @@ fn reply_same(res: Result<bool, Refusal>) -> Reply
 
 /// Does an edit.
 fn edit<S: Store, L: Layout>(heap: &mut Heap<S, L>, edit: Edit) -> Reply
-    ensures { (result, state_of words spare heap.new) ≡ edited shape (state_of words spare heap.old) edit }
+    ensures { (result, state_of S.words S.spare heap.new) ≡ edited L.shape (state_of S.words S.spare heap.old) edit }
 {
     match edit {
         Edit::New { root, header } => reply(heap.new(root, header)),
@@ -95,7 +95,7 @@ fn answer_refine(refined: Refined) -> Answer
 
 /// Serves a call.
 pub fn serve<S: Store, L: Layout>(heap: &mut Heap<S, L>, call: Call) -> Answer
-    ensures { (result, state_of words spare heap.new) ≡ served shape (state_of words spare heap.old) call }
+    ensures { (result, state_of S.words S.spare heap.new) ≡ served L.shape (state_of S.words S.spare heap.old) call }
 {
     match call {
         Call::Edit(asked) => Answer::Edit(edit(heap, asked)),
@@ -108,12 +108,12 @@ pub fn serve<S: Store, L: Layout>(heap: &mut Heap<S, L>, call: Call) -> Answer
 /// Makes a heap on a store and serves calls in order, as many as `answers` has places for. Each answer goes to the place of
 /// its call.
 pub fn live<S: Store, L: Layout>(store: S, calls: &[Call], answers: &mut [Answer]) -> Heap<S, L>
-    ensures exact { Lived shape (making (words store) (spare store)) (take (length answers.old) calls.now) answers.old answers.new (state_of words spare result) }
-    ensures faithful { Faithful shape (take (length answers.old) calls.now) answers.new }
-    ensures tied { TiedAfter shape (making (words store) (spare store)) (take (length answers.old) calls.now) answers.new (state_of words spare result) }
-    ensures marked { MarkedAfter shape (making (words store) (spare store)) (take (length answers.old) calls.now) answers.new (state_of words spare result) }
-    ensures sound { Sound shape (state_of words spare result) }
-    ensures outside { Outside (making (words store) (spare store)) (state_of words spare result) }
+    ensures exact { Lived L.shape (making (S.words store) (S.spare store)) (take (length answers.old) calls.now) answers.old answers.new (state_of S.words S.spare result) }
+    ensures faithful { Faithful L.shape (take (length answers.old) calls.now) answers.new }
+    ensures tied { TiedAfter L.shape (making (S.words store) (S.spare store)) (take (length answers.old) calls.now) answers.new (state_of S.words S.spare result) }
+    ensures marked { MarkedAfter L.shape (making (S.words store) (S.spare store)) (take (length answers.old) calls.now) answers.new (state_of S.words S.spare result) }
+    ensures sound { Sound L.shape (state_of S.words S.spare result) }
+    ensures outside { Outside (making (S.words store) (S.spare store)) (state_of S.words S.spare result) }
 {
     let mut heap = Heap::over(store);
     for k in 0..calls.len().min(answers.len()) {

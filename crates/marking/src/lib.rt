@@ -1,6 +1,8 @@
 //! Marking the objects of a memory, and refining its cards, in small steps.
 //!
 //! Every call takes any memory, whatever its words and tables hold, and does what its definition says.
+#![tactic(auto)]
+
 mod admission;
 mod refining;
 mod scanning;

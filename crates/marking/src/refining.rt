@@ -18,7 +18,7 @@ pub enum Refined {
 
 /// Enters a card in the table of the region that a reference leads to, if that is not the card's own.
 fn enter<S: Store, L: Layout>(memory: &mut Memory<S, L>, card: u32, reference: u32)
-    ensures { view words spare memory.new ≡ entering (view words spare memory.old) card reference }
+    ensures { view S.words S.spare memory.new ≡ entering (view S.words S.spare memory.old) card reference }
 {
     if reference != 0 && (reference - 1) / 1024 != card / 16 {
         memory.cards.remember((reference - 1) / 1024, card);
@@ -33,7 +33,7 @@ fn enter_field<S: Store, L: Layout>(
     header: u32,
     position: u32,
 )
-    ensures { view words spare memory.new ≡ enter_field shape (view words spare memory.old) card place header position }
+    ensures { view S.words S.spare memory.new ≡ enter_field L.shape (view S.words S.spare memory.old) card place header position }
 {
     if L::is_reference(header, position) {
         let reference = memory.word(place as usize + position as usize);
@@ -49,7 +49,7 @@ fn enter_fields<S: Store, L: Layout>(
     header: u32,
     count: u32,
 )
-    ensures { view words spare memory.new ≡ enter_fields shape (view words spare memory.old) card place header count }
+    ensures { view S.words S.spare memory.new ≡ enter_fields L.shape (view S.words S.spare memory.old) card place header count }
 {
     for k in 0..count {
         enter_field(memory, card, place, header, k + 1);
@@ -58,7 +58,7 @@ fn enter_fields<S: Store, L: Layout>(
 
 /// Does so for the object at a place, if one starts there.
 fn enter_object<S: Store, L: Layout>(memory: &mut Memory<S, L>, card: u32, place: u32)
-    ensures { view words spare memory.new ≡ enter_object shape (view words spare memory.old) card place }
+    ensures { view S.words S.spare memory.new ≡ enter_object L.shape (view S.words S.spare memory.old) card place }
 {
     if memory.starts.contains(place as usize) {
         let header = memory.word(place as usize);
@@ -75,7 +75,7 @@ fn enter_object<S: Store, L: Layout>(memory: &mut Memory<S, L>, card: u32, place
 /// Does so for the objects whose headers lie in the card.
 fn enter_objects<S: Store, L: Layout>(memory: &mut Memory<S, L>, card: u32)
     requires { card < 512 }
-    ensures { view words spare memory.new ≡ enter_objects shape (view words spare memory.old) card 64 }
+    ensures { view S.words S.spare memory.new ≡ enter_objects L.shape (view S.words S.spare memory.old) card 64 }
 {
     for k in 0..64 {
         enter_object(memory, card, 64 * card + k);
@@ -84,7 +84,7 @@ fn enter_objects<S: Store, L: Layout>(memory: &mut Memory<S, L>, card: u32)
 
 /// Refines the lowest dirty card: it is entered in the table of each other region that its objects refer to, and then clean.
 pub fn refine<S: Store, L: Layout>(memory: &mut Memory<S, L>) -> Refined
-    ensures { (result, view words spare memory.new) ≡ refine_step shape (view words spare memory.old) }
+    ensures { (result, view S.words S.spare memory.new) ≡ refine_step L.shape (view S.words S.spare memory.old) }
 {
     match memory.cards.first_dirty() {
         Some(card) => {

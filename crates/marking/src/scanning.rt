@@ -22,7 +22,7 @@ pub enum Marked {
 /// The object that a root holds is marked and made pending.
 fn shade_root<S: Store, L: Layout>(memory: &mut Memory<S, L>, k: usize)
     requires { k < 64 }
-    ensures { view words spare memory.new ≡ shaded_root (view words spare memory.old) k }
+    ensures { view S.words S.spare memory.new ≡ shaded_root (view S.words S.spare memory.old) k }
 {
     if let Some(place) = memory.roots[k] {
         memory.marks.shade(place);
@@ -31,7 +31,7 @@ fn shade_root<S: Store, L: Layout>(memory: &mut Memory<S, L>, k: usize)
 
 /// So are the objects of all roots.
 fn shade_roots<S: Store, L: Layout>(memory: &mut Memory<S, L>)
-    ensures { view words spare memory.new ≡ shaded_roots (view words spare memory.old) 64 }
+    ensures { view S.words S.spare memory.new ≡ shaded_roots (view S.words S.spare memory.old) 64 }
 {
     for k in 0..64 {
         shade_root(memory, k);
@@ -40,7 +40,7 @@ fn shade_roots<S: Store, L: Layout>(memory: &mut Memory<S, L>)
 
 /// Begins a marking: what the roots hold is marked and pending, and nothing else is marked.
 pub fn begin<S: Store, L: Layout>(memory: &mut Memory<S, L>) -> Result<(), Refusal>
-    ensures { (result, view words spare memory.new) ≡ begin_step (view words spare memory.old) }
+    ensures { (result, view S.words S.spare memory.new) ≡ begin_step (view S.words S.spare memory.old) }
 {
     match admit(memory.phase, Step::Begin) {
         Ok(()) => {
@@ -55,7 +55,7 @@ pub fn begin<S: Store, L: Layout>(memory: &mut Memory<S, L>) -> Result<(), Refus
 
 /// The object that a reference names is marked and made pending, unless it is marked already.
 fn shade_reference<S: Store, L: Layout>(memory: &mut Memory<S, L>, reference: u32)
-    ensures { view words spare memory.new ≡ shaded_old (view words spare memory.old) reference }
+    ensures { view S.words S.spare memory.new ≡ shaded_old (view S.words S.spare memory.old) reference }
 {
     if reference != 0 {
         memory.marks.shade(reference - 1);
@@ -69,7 +69,7 @@ fn scan_field<S: Store, L: Layout>(
     header: u32,
     position: u32,
 )
-    ensures { view words spare memory.new ≡ scan_field shape (view words spare memory.old) place header position }
+    ensures { view S.words S.spare memory.new ≡ scan_field L.shape (view S.words S.spare memory.old) place header position }
 {
     if L::is_reference(header, position) {
         let reference = memory.word(place as usize + position as usize);
@@ -79,7 +79,7 @@ fn scan_field<S: Store, L: Layout>(
 
 /// Does so for the first `count` positions after the header.
 fn scan_fields<S: Store, L: Layout>(memory: &mut Memory<S, L>, place: u32, header: u32, count: u32)
-    ensures { view words spare memory.new ≡ scan_fields shape (view words spare memory.old) place header count }
+    ensures { view S.words S.spare memory.new ≡ scan_fields L.shape (view S.words S.spare memory.old) place header count }
 {
     for k in 0..count {
         scan_field(memory, place, header, k + 1);
@@ -88,7 +88,7 @@ fn scan_fields<S: Store, L: Layout>(memory: &mut Memory<S, L>, place: u32, heade
 
 /// Scans the object at a place: it is pending no more, and what it refers to is marked.
 fn scan<S: Store, L: Layout>(memory: &mut Memory<S, L>, place: u32)
-    ensures { view words spare memory.new ≡ scanned shape (view words spare memory.old) place }
+    ensures { view S.words S.spare memory.new ≡ scanned L.shape (view S.words S.spare memory.old) place }
 {
     let header = memory.word(place as usize);
     let size = L::size(header);
@@ -98,7 +98,7 @@ fn scan<S: Store, L: Layout>(memory: &mut Memory<S, L>, place: u32)
 
 /// The live count of a region becomes what the marking has counted there.
 fn count_live<S: Store, L: Layout>(memory: &mut Memory<S, L>, g: u8)
-    ensures { view words spare memory.new ≡ live_from (view words spare memory.old) g }
+    ensures { view S.words S.spare memory.new ≡ live_from (view S.words S.spare memory.old) g }
 {
     let live = memory.marks.weight(g);
     memory.regions.set_live(g, live);
@@ -106,7 +106,7 @@ fn count_live<S: Store, L: Layout>(memory: &mut Memory<S, L>, g: u8)
 
 /// So does that of each region.
 fn count_lives<S: Store, L: Layout>(memory: &mut Memory<S, L>)
-    ensures { view words spare memory.new ≡ lives_from (view words spare memory.old) 32 }
+    ensures { view S.words S.spare memory.new ≡ lives_from (view S.words S.spare memory.old) 32 }
 {
     for g in 0..32 {
         count_live(memory, g);
@@ -115,7 +115,7 @@ fn count_lives<S: Store, L: Layout>(memory: &mut Memory<S, L>)
 
 /// Ends the marking.
 fn finish<S: Store, L: Layout>(memory: &mut Memory<S, L>)
-    ensures { view words spare memory.new ≡ done (view words spare memory.old) }
+    ensures { view S.words S.spare memory.new ≡ done (view S.words S.spare memory.old) }
 {
     count_lives(memory);
     memory.phase = Phase::Marked;
@@ -123,7 +123,7 @@ fn finish<S: Store, L: Layout>(memory: &mut Memory<S, L>)
 
 /// Scans the pending object at the lowest place, or ends the marking where none is pending.
 pub fn mark<S: Store, L: Layout>(memory: &mut Memory<S, L>) -> Result<Marked, Refusal>
-    ensures { (result, view words spare memory.new) ≡ mark_step shape (view words spare memory.old) }
+    ensures { (result, view S.words S.spare memory.new) ≡ mark_step L.shape (view S.words S.spare memory.old) }
 {
     match admit(memory.phase, Step::Mark) {
         Ok(()) => Ok(advance(memory)),
@@ -133,7 +133,7 @@ pub fn mark<S: Store, L: Layout>(memory: &mut Memory<S, L>) -> Result<Marked, Re
 
 /// The next step of a marking under way.
 fn advance<S: Store, L: Layout>(memory: &mut Memory<S, L>) -> Marked
-    ensures { (result, view words spare memory.new) ≡ marked_from shape (view words spare memory.old) }
+    ensures { (result, view S.words S.spare memory.new) ≡ marked_from L.shape (view S.words S.spare memory.old) }
 {
     match memory.marks.next_pending() {
         Some(place) => {

@@ -33,7 +33,7 @@ fn place_of(reference: u32) -> Option<u32>
 impl<S: Store, L: Layout> Memory<S, L> {
     /// While marking, the object that an old reference names is marked and made pending, unless it is marked already.
     fn guard(&mut self, old: u32)
-        ensures { view words spare self.new ≡ guarded self.old.phase (view words spare self.old) old }
+        ensures { view S.words S.spare self.new ≡ guarded self.old.phase (view S.words S.spare self.old) old }
     {
         if self.phase == Phase::Marking && old != 0 {
             self.marks.shade(old - 1);
@@ -42,7 +42,7 @@ impl<S: Store, L: Layout> Memory<S, L> {
 
     /// The card of the object at a place becomes dirty, if a new reference of it names an object of another region.
     fn note(&mut self, place: u32, reference: u32)
-        ensures { view words spare self.new ≡ noted (view words spare self.old) place reference }
+        ensures { view S.words S.spare self.new ≡ noted (view S.words S.spare self.old) place reference }
     {
         if reference != 0 && (reference - 1) / 1024 != place / 1024 {
             self.cards.make_dirty(place / 64);
@@ -51,7 +51,7 @@ impl<S: Store, L: Layout> Memory<S, L> {
 
     /// Stores a reference at a position of the object at a place.
     fn store_reference(&mut self, place: u32, position: u32, reference: u32)
-        ensures { view words spare self.new ≡ storing (view words spare self.old) place position reference }
+        ensures { view S.words S.spare self.new ≡ storing (view S.words S.spare self.old) place position reference }
     {
         let at = place as usize + position as usize;
         let old = self.word(at);
@@ -62,7 +62,7 @@ impl<S: Store, L: Layout> Memory<S, L> {
 
     /// Stores what root `k` holds at a reference position of the object at root `i`.
     pub fn set(&mut self, i: u32, position: u32, k: u32) -> Result<(), Refusal>
-        ensures { (result, view words spare self.new) ≡ set_reference shape (view words spare self.old) i position k }
+        ensures { (result, view S.words S.spare self.new) ≡ set_reference L.shape (view S.words S.spare self.old) i position k }
     {
         if i >= 64 || k >= 64 {
             return Err(Refusal::RootAbove63);
@@ -80,7 +80,7 @@ impl<S: Store, L: Layout> Memory<S, L> {
 
     /// Loads root `k` from a reference position of the object at root `i`.
     pub fn get(&mut self, i: u32, position: u32, k: u32) -> Result<(), Refusal>
-        ensures { (result, view words spare self.new) ≡ get_reference shape (view words spare self.old) i position k }
+        ensures { (result, view S.words S.spare self.new) ≡ get_reference L.shape (view S.words S.spare self.old) i position k }
     {
         if i >= 64 || k >= 64 {
             return Err(Refusal::RootAbove63);
@@ -98,7 +98,7 @@ impl<S: Store, L: Layout> Memory<S, L> {
 
     /// Stores a word at a plain position of the object at root `i`.
     pub fn put(&mut self, i: u32, position: u32, word: u32) -> Result<(), Refusal>
-        ensures { (result, view words spare self.new) ≡ put_word shape (view words spare self.old) i position word }
+        ensures { (result, view S.words S.spare self.new) ≡ put_word L.shape (view S.words S.spare self.old) i position word }
     {
         if i >= 64 {
             return Err(Refusal::RootAbove63);
@@ -115,7 +115,7 @@ impl<S: Store, L: Layout> Memory<S, L> {
 
     /// The word at a plain position of the object at root `i`.
     pub fn peek(&self, i: u32, position: u32) -> Result<u32, Refusal>
-        ensures { result ≡ peek_word shape (view words spare self.now) i position }
+        ensures { result ≡ peek_word L.shape (view S.words S.spare self.now) i position }
     {
         if i >= 64 {
             return Err(Refusal::RootAbove63);
@@ -131,7 +131,7 @@ impl<S: Store, L: Layout> Memory<S, L> {
 
     /// Makes root `k` hold what root `i` holds.
     pub fn copy(&mut self, i: u32, k: u32) -> Result<(), Refusal>
-        ensures { (result, view words spare self.new) ≡ copy_root (view words spare self.old) i k }
+        ensures { (result, view S.words S.spare self.new) ≡ copy_root (view S.words S.spare self.old) i k }
     {
         if i >= 64 || k >= 64 {
             return Err(Refusal::RootAbove63);
@@ -142,7 +142,7 @@ impl<S: Store, L: Layout> Memory<S, L> {
 
     /// Makes root `i` nil.
     pub fn clear(&mut self, i: u32) -> Result<(), Refusal>
-        ensures { (result, view words spare self.new) ≡ clear_root (view words spare self.old) i }
+        ensures { (result, view S.words S.spare self.new) ≡ clear_root (view S.words S.spare self.old) i }
     {
         if i >= 64 {
             return Err(Refusal::RootAbove63);
@@ -153,7 +153,7 @@ impl<S: Store, L: Layout> Memory<S, L> {
 
     /// Whether roots `i` and `k` hold the same.
     pub fn same(&self, i: u32, k: u32) -> Result<bool, Refusal>
-        ensures { result ≡ same_roots (view words spare self.now) i k }
+        ensures { result ≡ same_roots (view S.words S.spare self.now) i k }
     {
         if i >= 64 || k >= 64 {
             return Err(Refusal::RootAbove63);
@@ -163,7 +163,7 @@ impl<S: Store, L: Layout> Memory<S, L> {
 
     /// The header of the object at root `i`.
     pub fn head(&self, i: u32) -> Result<u32, Refusal>
-        ensures { result ≡ head_of (view words spare self.now) i }
+        ensures { result ≡ head_of (view S.words S.spare self.now) i }
     {
         if i >= 64 {
             return Err(Refusal::RootAbove63);

@@ -2,6 +2,8 @@
 //!
 //! Every call takes any arguments on any memory, whatever its words and tables hold, and does what its definition says. That
 //! the words below the fills are objects, and that references name objects, is the business of the crate above.
+#![tactic(auto)]
+
 mod edits;
 mod memory;
 mod objects;

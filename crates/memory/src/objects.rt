@@ -14,8 +14,8 @@ use tables::{Cards, Marks, Regions};
 
 /// Writes `count` zeros after the word at a place.
 fn write_zeros<S: Store>(store: &mut S, place: u32, count: u32)
-    ensures words { words store.new ≡ zeroed (words store.old) (place + 1) count }
-    ensures spare { spare store.new ≡ spare store.old }
+    ensures words { S.words store.new ≡ zeroed (S.words store.old) (place + 1) count }
+    ensures spare { S.spare store.new ≡ S.spare store.old }
 {
     for k in 0..count {
         let _ = store.write(place as usize + 1 + k as usize, 0);
@@ -25,7 +25,7 @@ fn write_zeros<S: Store>(store: &mut S, place: u32, count: u32)
 impl<S: Store, L: Layout> Memory<S, L> {
     /// A memory without objects, on the words of a store. It writes no word.
     pub fn over(store: S) -> Memory<S, L>
-        ensures { view words spare result ≡ making (words store) (spare store) }
+        ensures { view S.words S.spare result ≡ making (S.words store) (S.spare store) }
     {
         let regions = Regions::new(store.len());
         Memory {
@@ -42,21 +42,21 @@ impl<S: Store, L: Layout> Memory<S, L> {
 
     /// The word at an index; 0 where there is none.
     pub fn word(&self, index: usize) -> u32
-        ensures { result ≡ slice_index (words self.now.store) index }
+        ensures { result ≡ slice_index (S.words self.now.store) index }
     {
         self.store.read(index).unwrap_or(0)
     }
 
     /// Puts a word at an index, if there is one.
     pub fn set_word(&mut self, index: usize, word: u32)
-        ensures { view words spare self.new ≡ with_word (view words spare self.old) index word }
+        ensures { view S.words S.spare self.new ≡ with_word (view S.words S.spare self.old) index word }
     {
         let _ = self.store.write(index, word);
     }
 
     /// Writes an object at a place: its header and a body of zeros.
     fn lay(&mut self, place: u32, header: u32, size: u32)
-        ensures { view words spare self.new ≡ laid (view words spare self.old) place header size }
+        ensures { view S.words S.spare self.new ≡ laid (view S.words S.spare self.old) place header size }
     {
         self.set_word(place as usize, header);
         write_zeros(&mut self.store, place, size.saturating_sub(1));
@@ -65,14 +65,14 @@ impl<S: Store, L: Layout> Memory<S, L> {
 
     /// An object starts at a place.
     fn add_start(&mut self, place: u32)
-        ensures { view words spare self.new ≡ with_start (view words spare self.old) place }
+        ensures { view S.words S.spare self.new ≡ with_start (view S.words S.spare self.old) place }
     {
         self.starts.insert(place as usize);
     }
 
     /// Marks the new object at a place and counts it live, unless no marking was ever begun.
     fn mark_new(&mut self, place: u32, size: u32)
-        ensures { view words spare self.new ≡ born self.old.phase (view words spare self.old) place size }
+        ensures { view S.words S.spare self.new ≡ born self.old.phase (view S.words S.spare self.old) place size }
     {
         match self.phase {
             Phase::Idle => {}
@@ -86,7 +86,7 @@ impl<S: Store, L: Layout> Memory<S, L> {
 
     /// Makes an object with a body of zeros; the root then holds it.
     pub fn new(&mut self, root: u32, header: u32) -> Result<(), Refusal>
-        ensures { (result, view words spare self.new) ≡ new_object shape (view words spare self.old) root header }
+        ensures { (result, view S.words S.spare self.new) ≡ new_object L.shape (view S.words S.spare self.old) root header }
     {
         if root >= 64 {
             return Err(Refusal::RootAbove63);

@@ -1,5 +1,7 @@
 //! The heap that never collects. It says what a planner must see: objects under numbers in the order in which they were
 //! made, 64 roots, and every edit.
+#![tactic(auto)]
+
 mod edits;
 mod model;
 mod object;

@@ -63,7 +63,7 @@ impl<L: Layout> Model<L> {
 
     /// Adds an object with a body of zeros, and gives its number. For want of memory, or of a number that fits, it adds nothing.
     fn add(&mut self, header: u32) -> Result<u32, AllocError>
-        ensures { MatchResult result (λ n. (n ≡ suc (length (content self.old).objects)) × (content self.new ≡ with_object shape (content self.old) header)) (λ _. content self.new ≡ content self.old) }
+        ensures { MatchResult result (λ n. (n ≡ suc (length (content self.old).objects)) × (content self.new ≡ with_object L.shape (content self.old) header)) (λ _. content self.new ≡ content self.old) }
     {
         let count = self.objects.len();
         if count >= u32::MAX as usize {
@@ -79,7 +79,7 @@ impl<L: Layout> Model<L> {
     /// `AllocError` says that memory is wanting, or that the number of the object would not fit a `u32`. Then nothing is
     /// altered.
     pub fn new(&mut self, root: u32, header: u32) -> Result<Reply, AllocError>
-        ensures { MatchResult result (λ reply. (reply, content self.new) ≡ new shape (content self.old) root header) (λ _. (content self.new ≡ content self.old) × (makes shape (Edit.New root header) ≡ true)) }
+        ensures { MatchResult result (λ reply. (reply, content self.new) ≡ new L.shape (content self.old) root header) (λ _. (content self.new ≡ content self.old) × (makes L.shape (Edit.New root header) ≡ true)) }
     {
         if root >= 64 {
             return Ok(Reply::Refused(Refusal::RootAbove63));
@@ -93,7 +93,7 @@ impl<L: Layout> Model<L> {
 
     /// Stores what root `k` holds at a reference position of the object that root `i` holds.
     pub fn set(&mut self, i: u32, position: u32, k: u32) -> Reply
-        ensures { (result, content self.new) ≡ set_reference shape (content self.old) i position k }
+        ensures { (result, content self.new) ≡ set_reference L.shape (content self.old) i position k }
     {
         if i >= 64 || k >= 64 {
             return Reply::Refused(Refusal::RootAbove63);
@@ -112,7 +112,7 @@ impl<L: Layout> Model<L> {
 
     /// Loads root `k` from a reference position of the object that root `i` holds.
     pub fn get(&mut self, i: u32, position: u32, k: u32) -> Reply
-        ensures { (result, content self.new) ≡ get_reference shape (content self.old) i position k }
+        ensures { (result, content self.new) ≡ get_reference L.shape (content self.old) i position k }
     {
         if i >= 64 || k >= 64 {
             return Reply::Refused(Refusal::RootAbove63);
@@ -130,7 +130,7 @@ impl<L: Layout> Model<L> {
 
     /// Stores a word at a plain position of the object that root `i` holds.
     pub fn put(&mut self, i: u32, position: u32, word: u32) -> Reply
-        ensures { (result, content self.new) ≡ put_word shape (content self.old) i position word }
+        ensures { (result, content self.new) ≡ put_word L.shape (content self.old) i position word }
     {
         if i >= 64 {
             return Reply::Refused(Refusal::RootAbove63);
@@ -148,7 +148,7 @@ impl<L: Layout> Model<L> {
 
     /// Asks for the word at a plain position of the object that root `i` holds.
     pub fn peek(&self, i: u32, position: u32) -> Reply
-        ensures { (result, content self.now) ≡ peek shape (content self.now) i position }
+        ensures { (result, content self.now) ≡ peek L.shape (content self.now) i position }
     {
         if i >= 64 {
             return Reply::Refused(Refusal::RootAbove63);
@@ -211,7 +211,7 @@ impl<L: Layout> Model<L> {
 
     /// Does `edit`. `AllocError` is the answer of `new`, and nothing is altered then.
     pub fn edit(&mut self, edit: Edit) -> Result<Reply, AllocError>
-        ensures { MatchResult result (λ reply. (reply, content self.new) ≡ edited shape (content self.old) edit) (λ _. (content self.new ≡ content self.old) × (makes shape edit ≡ true)) }
+        ensures { MatchResult result (λ reply. (reply, content self.new) ≡ edited L.shape (content self.old) edit) (λ _. (content self.new ≡ content self.old) × (makes L.shape edit ≡ true)) }
     {
         match edit {
             Edit::New { root, header } => self.new(root, header),

@@ -1,4 +1,6 @@
 //! Builds a small campus in a heap and prints a line for each call: what was asked and what was answered.
+#![tactic(auto)]
+
 mod asks;
 mod day;
 

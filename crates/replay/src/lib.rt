@@ -1,4 +1,6 @@
 //! Calls and answers as words, for a program in another language that has a heap run on words of its own.
+#![tactic(auto)]
+
 mod codes;
 mod lent;
 mod running;

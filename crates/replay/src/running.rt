@@ -37,7 +37,7 @@ fn step<S: Store, L: Layout>(
     answers: &mut [u32],
     k: usize,
 ) -> bool
-    ensures { (result, answers.new, state_of words spare heap.new) ≡ stepped shape calls.now answers.old k (state_of words spare heap.old) }
+    ensures { (result, answers.new, state_of S.words S.spare heap.new) ≡ stepped L.shape calls.now answers.old k (state_of S.words S.spare heap.old) }
 {
     if k >= answers.len() / 2 {
         return false;
@@ -58,7 +58,7 @@ fn run_calls<S: Store, L: Layout>(
     calls: &[u32],
     answers: &mut [u32],
 ) -> usize
-    ensures { (result, answers.new, state_of words spare heap.new) ≡ all_served shape (state_of words spare heap.old) (asked calls.now answers.old) answers.old }
+    ensures { (result, answers.new, state_of S.words S.spare heap.new) ≡ all_served L.shape (state_of S.words S.spare heap.old) (asked calls.now answers.old) answers.old }
 {
     let mut k = 0;
     while step(heap, calls, answers, k) {
@@ -69,7 +69,7 @@ fn run_calls<S: Store, L: Layout>(
 
 /// Stores the fills of the regions, from region 0 on, as far as there are places.
 fn store_fills<S: Store, L: Layout>(heap: &Heap<S, L>, fills: &mut [u32])
-    ensures { fills.new ≡ fills_of (state_of words spare heap.now) fills.old }
+    ensures { fills.new ≡ fills_of (state_of S.words S.spare heap.now) fills.old }
 {
     let count = heap.memory().regions.count;
     for g in 0..count {
@@ -87,7 +87,7 @@ pub fn run<L: Layout>(
     answers: &mut [u32],
     fills: &mut [u32],
 ) -> u64
-    ensures { (result, answers.new, fills.new) ≡ ran shape calls.now words.old answers.old fills.old }
+    ensures { (result, answers.new, fills.new) ≡ ran L.shape calls.now words.old answers.old fills.old }
 {
     let mut heap = Heap::<Lent<'_>, L>::over(Lent { words });
     let count = run_calls(&mut heap, calls, answers);
