@@ -1,5 +1,5 @@
 -- Changes of objects and references, for a heap and for a model alike.
-use Rattle.std.proofs.Common.{◌≡◌, ℕ, suc, Bool, true, false, cond, ◌&&◌, eqb}
+use Rattle.std.proofs.Common.{◌≡◌, ℕ, suc, true, cond, ◌&&◌, eqb}
 use Rattle.layout.specs.Shape.{Shape}
 use Rattle.model.specs.Graph.{Graph, Reach}
 

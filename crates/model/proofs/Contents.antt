@@ -1,14 +1,13 @@
 -- How the edits change the objects and roots of a content, seen as a graph; and that references go on naming objects.
-use Rattle.std.proofs.Common.{◌≡◌, ℕ, zero, suc, ◌+◌, ◌-◌, ◌<◌, ◌≤◌, Bool, true, false, cond, ◌&&◌, eqb, ltb, ◌⊎◌, List, [], ◌∷◌, ◌++◌, length, get_or, set, replicate, sym, refl, ap, ◌∙◌, subst, inl, inr, arith}
+use Rattle.std.proofs.Common.{◌≡◌, ℕ, suc, ◌-◌, ◌<◌, ◌≤◌, true, false, cond, ◌&&◌, eqb, ltb, ◌⊎◌, List, [], length, get_or, set, replicate, sym, refl, ap, ◌∙◌, subst, inl, inr, arith}
 use Rattle.image.specs.Content.{Content, Object}
-use Rattle.layout.specs.Shape.{Shape, Lawful, plain}
-use Rattle.std.proofs.lemmas.List.{places, length-set, length_push, get_or-set_same, get_or-set_other, get_or_push, get_or_append_left, get_or_past, get_or-replicate, length-replicate}
+use Rattle.layout.specs.Shape.{Shape, Lawful}
+use Rattle.std.proofs.lemmas.List.{length-set, get_or-set_same, get_or-set_other, get_or_past, get_or-replicate, length-replicate}
 use Rattle.std.proofs.lemmas.Bool.Decides.{nat_tests}
 use Rattle.std.proofs.lemmas.Bool.{cases_eq, cases_lt, lt-ltb, ltb-true}
-use Rattle.model.specs.Graph.{Graph}
-use Rattle.model.specs.Edits.{start, held, object_at, numbered, word_at, with_root, with_word, with_object, graph_of}
+use Rattle.model.specs.Edits.{start, object_at, word_at, with_root, with_word, graph_of}
 use Rattle.model.proofs.Adding.{Closed}
-use Rattle.model.proofs.Changes.{write, hold, add}
+use Rattle.model.proofs.Changes.{write, hold}
 use Rattle.model.proofs.Views.{Equal}
 
 -- 64 roots, a body of the right length for each object, and references that name objects

@@ -1,6 +1,6 @@
 -- What a root holds, and what a reference of a reached object holds, is the same in a heap and in the model it is tied to. So
 -- a root may take such a reference over, and the two stay tied.
-use Rattle.std.proofs.Common.{◌≡◌, ℕ, zero, suc, Bool, true, false, cond, eqb, ◌⊎◌, sym, refl, ap, ◌∙◌, subst, inl, inr, arith}
+use Rattle.std.proofs.Common.{◌≡◌, ℕ, zero, suc, true, cond, eqb, sym, refl, ap, ◌∙◌, subst, inl, inr, arith}
 use Rattle.layout.specs.Shape.{Shape}
 use Rattle.std.proofs.lemmas.Bool.Decides.{nat_tests}
 use Rattle.std.proofs.lemmas.Bool.{cases_eq}

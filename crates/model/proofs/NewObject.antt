@@ -1,12 +1,11 @@
 -- One more object at the end of a content, with a body of zeros, which a root then holds: all others are as they were.
-use Rattle.std.proofs.Common.{◌≡◌, ℕ, zero, suc, ◌+◌, ◌-◌, ◌<◌, ◌≤◌, Bool, true, false, cond, eqb, ltb, ◌⊎◌, List, [], ◌∷◌, ◌++◌, length, get_or, set, replicate, sym, refl, ap, ◌∙◌, subst, inl, inr, arith}
+use Rattle.std.proofs.Common.{◌≡◌, ℕ, suc, ◌+◌, ◌-◌, ◌<◌, Bool, true, false, cond, eqb, ltb, [], ◌∷◌, ◌++◌, length, replicate, sym, refl, ap, ◌∙◌, subst, inl, inr, arith}
 use Rattle.image.specs.Content.{Content, Object}
 use Rattle.layout.specs.Shape.{Shape, Lawful}
-use Rattle.std.proofs.lemmas.List.{length-set, length_push, get_or_push, get_or_append_left, get_or_past, length-replicate}
+use Rattle.std.proofs.lemmas.List.{length_push, get_or_push, get_or_append_left, get_or_past, length-replicate}
 use Rattle.std.proofs.lemmas.Bool.Decides.{nat_tests}
 use Rattle.std.proofs.lemmas.Bool.{cases_eq, cases_lt, lt-ltb, ltb-true}
-use Rattle.model.specs.Edits.{held, object_at, word_at, with_root, with_object, graph_of}
-use Rattle.model.proofs.Adding.{Closed}
+use Rattle.model.specs.Edits.{object_at, word_at, with_root, with_object, graph_of}
 use Rattle.model.proofs.Changes.{hold, add}
 use Rattle.model.proofs.Contents.{Whole, set_tells, zeros, root-whole}
 use Rattle.model.proofs.Views.{Equal}

@@ -1,6 +1,6 @@
 -- The tie sees of a heap only which objects there are, their words and the roots. So a heap that looks the same is tied to the
 -- same model, and a model that looks the same to the same heap.
-use Rattle.std.proofs.Common.{◌≡◌, ℕ, suc, ◌<◌, ◌≤◌, Bool, true, false, sym, refl, ap, ◌∙◌, subst, arith}
+use Rattle.std.proofs.Common.{◌≡◌, ℕ, ◌<◌, ◌≤◌, true, sym, ◌∙◌, subst, arith}
 use Rattle.layout.specs.Shape.{Shape, Lawful, plain}
 use Rattle.std.proofs.lemmas.Bool.Decides.{nat_tests}
 use Rattle.model.specs.Graph.{Graph, Reach, by_root, by_field}

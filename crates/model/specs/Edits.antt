@@ -1,6 +1,6 @@
 -- The heap that never collects: what each edit answers and leaves. Objects are numbered from 1 in the order of making; a
 -- reference is such a number, and nil is 0. There are 64 roots.
-use Rattle.std.specs.Prelude.{ℕ, suc, ◌-◌, Bool, true, false, cond, not, ◌&&◌, List, [], ◌∷◌, ◌++◌, length, replicate, ◌==◌, nat_lt, slice_index, slice_index_or, slice_set}
+use Rattle.std.specs.Prelude.{ℕ, suc, ◌-◌, Bool, cond, ◌&&◌, List, [], ◌∷◌, ◌++◌, length, replicate, ◌==◌, nat_lt, slice_index, slice_index_or, slice_set}
 use Rattle.image.specs.Content.{Content, Object}
 use Rattle.layout.specs.Shape.{Shape, plain}
 use Rattle.model.specs.declared.edits.Refusal.{Refusal}

@@ -1,5 +1,5 @@
 -- The tie between a heap and the heap that never collects.
-use Rattle.std.specs.Prelude.{◌≡◌, ℕ, suc, Bool, true, ◌≢◌}
+use Rattle.std.specs.Prelude.{◌≡◌, ℕ, suc, true, ◌≢◌}
 use Rattle.layout.specs.Shape.{Shape, plain}
 use Rattle.model.specs.Graph.{Graph, Reach}
 

@@ -1,6 +1,5 @@
 use Rattle.std.proofs.Common.{vec_items, ap, arith, rules}
 use Rattle.std.proofs.lemmas.List.{length-map}
-use Rattle.image.specs.Content.{Content}
 use Rattle.model.specs.Held.{object_of}
 use Rattle.model.proofs.Objects.{object_more}
 use Rattle.model.proofs.model.Model.add.Goals as goal
@@ -10,5 +9,5 @@ returns g c =
     let os = vec_items c.args.self.now.objects in (
       omega (arith, length-map os object_of),
       ap (λ x. record { roots = c.args.self.now.roots; objects = x })
-          (object_more os (vec_items c.push.new.self) c.in-ok-object.object _ c.in-ok-push.ensures.items (search rules)),
+          (object_more os (vec_items c.push.new.self) c.in_ok-object.object _ c.in_ok-push.ensures.items (search rules)),
     )
