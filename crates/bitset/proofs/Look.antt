@@ -1,6 +1,6 @@
 -- Looking for the first member, word by word: none stands before the word at w, and x holds what is left of that word. A
 -- word of 0 is passed, and in any other the lowest digit is the member looked for.
-use Rattle.std.proofs.Common.{◌≡◌, ℕ, ◌+◌, ◌-◌, ◌*◌, ◌/◌, ◌%◌, ◌^◌, ◌<◌, ◌≤◌, Bool, false, ◌&&◌, leb, Some, None, sym, ap, ◌∙◌, subst, ⊎_elim, arith}
+use Rattle.std.proofs.Common.{◌≡◌, ℕ, ◌+◌, ◌*◌, ◌/◌, ◌%◌, ◌^◌, ◌<◌, ◌≤◌, Bool, false, ◌&&◌, leb, Some, None, sym, ap, ◌∙◌, subst, ⊎_elim, arith}
 use lib.Count.{count_trailing_zeros}
 use Rattle.std.proofs.lemmas.Bool.{cases_lt, le-leb, and_parts, leb-true}
 use Rattle.bitset.specs.Digit.{digit}

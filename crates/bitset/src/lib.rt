@@ -1,6 +1,8 @@
 //! A set of numbers below a bound that its type fixes, one bit for each in words of 64.
 //!
 //! Each call takes any numbers: one at or past the bound is no member, and never becomes one.
+#![tactic(auto)]
+
 mod bits;
 mod word;
 

@@ -37,8 +37,8 @@ step g c =
     let here = whole-size ws c.loop-w.w (omega arith) (omega arith) in
     omega (arith, here, tally_join (members c.args.self.now) c.args.a (64 * c.loop-w.w) (64 * (c.loop-w.w + 1)) (omega arith) (omega arith))
 
-pub overflow-add-n : goal.overflow-add-n
-overflow-add-n g c = omega (arith, step g c, tally_le (members c.args.self.now) c.args.a (64 * (c.loop-w.w + 1) - c.args.a))
+pub overflow_add-n : goal.overflow_add-n
+overflow_add-n g c = omega (arith, step g c, tally_le (members c.args.self.now) c.args.a (64 * (c.loop-w.w + 1) - c.args.a))
 
 pub loop-w-preserved : goal.loop-w-preserved
 loop-w-preserved g c = step g c
@@ -54,8 +54,8 @@ last g c =
     let here = end_size c.args.self.now.words c.args.b c.below-then-high.result (omega arith) (omega arith) c.below-then-high.ensures in
     omega (arith, before, here, tally_join f c.args.a (64 * (c.args.b / 64)) c.args.b (omega arith) (omega arith))
 
-pub overflow-add-n-then-high : goal.overflow-add-n-then-high
-overflow-add-n-then-high g c = omega (arith, last g c, tally_le (members c.args.self.now) c.args.a (c.args.b - c.args.a))
+pub overflow_add-n-then-high : goal.overflow_add-n-then-high
+overflow_add-n-then-high g c = omega (arith, last g c, tally_le (members c.args.self.now) c.args.a (c.args.b - c.args.a))
 
 pub returns-then-high : goal.returns-then-high
 returns-then-high g c = last g c

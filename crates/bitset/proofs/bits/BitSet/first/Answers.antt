@@ -53,8 +53,8 @@ loop-x-preserved g c =
 lowest : (g : given.Over) (c : goal.After-lowest g) → Lowest 64 c.loop-x.x c.lowest.result
 lowest g c = lowest_at c.loop-x.x c.lowest.result (omega arith) (omega arith) c.lowest.ensures
 
-pub overflow-add-result : goal.overflow-add-result
-overflow-add-result g c = omega (arith, (lowest g c).0)
+pub overflow_add-result : goal.overflow_add-result
+overflow_add-result g c = omega (arith, (lowest g c).0)
 
 pub returns : goal.returns
 returns g c =

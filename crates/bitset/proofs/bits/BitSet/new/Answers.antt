@@ -5,8 +5,8 @@ use Rattle.bitset.specs.Members.{members, in_words}
 use Rattle.bitset.proofs.Lists.{list-none}
 use Rattle.bitset.proofs.bits.BitSet.new.Goals as goal
 
-pub invariant-of-result : goal.invariant-of-result
-invariant-of-result g c = (ap length c.zeros.ensures ∙ length-replicate {A = ℕ} g.row.W 0, tt)
+pub invariant_of-result : goal.invariant_of-result
+invariant_of-result g c = record { len = ap length c.zeros.ensures ∙ length-replicate {A = ℕ} g.row.W 0 }
 
 pub returns : goal.returns
 unfolding members
