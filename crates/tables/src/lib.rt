@@ -2,6 +2,8 @@
 //!
 //! Every call takes any numbers: a region, a card or a place that there is none of is read as an empty one, and writing to it
 //! alters nothing.
+#![tactic(auto)]
+
 mod cards;
 mod marks;
 mod region;

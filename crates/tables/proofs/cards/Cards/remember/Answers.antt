@@ -1,4 +1,4 @@
-use Rattle.std.proofs.Common.{◌≡◌, false, ◌&&◌, ltb, sym, ap, ◌∙◌, arith, rules}
+use Rattle.std.proofs.Common.{◌≡◌, false, ◌&&◌, ltb, ap, ◌∙◌, arith, rules}
 use Rattle.bitset.specs.Members.{members}
 use Rattle.bitset.specs.Set.{joined}
 use Rattle.std.proofs.lemmas.Bool.Decides.{nat_tests}
