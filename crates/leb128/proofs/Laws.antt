@@ -1,11 +1,9 @@
 -- Reading and writing belong together: a written number is read back whatever follows, and what is
 -- read was written so. Both go byte by byte along `groups`; the limits say which bytes may follow.
-use Rattle.std.proofs.Common.{◌≡◌, ℕ, zero, suc, ◌+◌, ◌-◌, ◌*◌, ◌/◌, ◌%◌, ◌^◌, ◌<◌, ◌≤◌, cond, ◌&&◌, eqb, ltb, List, [], ◌∷◌, ◌++◌, length, get_or, take, drop, set, Ok, Err, Result, sym, refl, ap, ◌∙◌, subst, ⊎_elim, append_assoc, add-zero, add-one, arith, length-append, length-drop, length-set, take-suc-set, drop-set-lt}
+use Rattle.std.proofs.Common.{◌≡◌, ℕ, zero, suc, ◌+◌, ◌-◌, ◌*◌, ◌/◌, ◌%◌, ◌^◌, ◌<◌, ◌≤◌, ◌&&◌, eqb, ltb, List, [], ◌∷◌, ◌++◌, length, take, drop, set, Ok, Err, sym, ap, ◌∙◌, subst, ⊎_elim, append_assoc, add-zero, add-one, arith, length-append, length-drop, length-set, take-suc-set, drop-set-lt}
 use Rattle.std.proofs.lemmas.List.{take-append-drop, drop-drop}
 use Rattle.std.proofs.lemmas.Bool.Decides.{nat_tests}
 use Rattle.std.proofs.lemmas.Bool.{cond_both, cases_lt}
-use Rattle.leb128.specs.declared.Fault.{Fault}
-use Rattle.leb128.specs.declared.Number.{Number}
 use Rattle.leb128.specs.Number.{Decoded, joined, follow, decode, groups, encode, limit, group_count, from, read_at, replaced, overwritten}
 use Rattle.leb128.specs.Laws.{ReadsBack, Canonical}
 use Rattle.leb128.proofs.Steps.{Bytes, follow_more, decode_more, groups-one, groups_more, lower}

@@ -1,5 +1,7 @@
 //! Unsigned numbers below 2^32 as groups of seven bits, low group first. The top bit is set on all
 //! bytes but the last, and only the shortest form of a number is read or written.
+#![tactic(auto)]
+
 ghost use Rattle.std.specs.Prelude.{◌≡◌, ℕ, ◌+◌, ◌-◌, ◌*◌, ◌^◌, ◌<◌, ◌≤◌, length, MatchOption};
 ghost use Rattle.leb128.specs.Laws.{Reading};
 ghost use Rattle.leb128.specs.Number.{decode, encode, follow, group_count, groups, limit, overwritten, read_at, refusal_of, replaced};

@@ -11,8 +11,8 @@ returns-then-value-lt128 t c = search (rules, groups-one)
 pub bounds-out-at-2 : goal.bounds-out-at-2
 bounds-out-at-2 t c = search (rules, groups_more)
 
-pub write-groups-requires : goal.write-groups-requires
-write-groups-requires t c = search (rules, groups_more, lower)
+pub write_groups-requires : goal.write_groups-requires
+write_groups-requires t c = search (rules, groups_more, lower)
 
 pub returns : goal.returns
 returns t c = search (rules, groups_more)

@@ -1,4 +1,4 @@
 use Rattle.leb128.proofs.+write_groups.Given as goal
 
-abbrev pub decreases-write-groups : goal.decreases-write-groups
-decreases-write-groups l = l.left
+abbrev pub decreases-write_groups : goal.decreases-write_groups
+decreases-write_groups l = l.left
