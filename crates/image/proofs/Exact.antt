@@ -1,13 +1,12 @@
 -- Both ways for the whole image: accepted is exactly what is the written form of a well-numbered
 -- content. Each stage of `read` was told by `Said` and is had again by `Written`.
-use Rattle.std.proofs.Common.{◌≡◌, ℕ, zero, suc, ◌+◌, ◌-◌, ◌^◌, ◌<◌, ◌≤◌, max, Bool, true, false, cond, ◌&&◌, eqb, ltb, leb, ◌↔◌, List, [], ◌∷◌, ◌++◌, length, drop, Ok, Err, Result, sym, refl, ap, ◌∙◌, subst, ap₂, append-nil, arith, length-drop}
+use Rattle.std.proofs.Common.{◌≡◌, ℕ, ◌+◌, ◌-◌, ◌^◌, ◌<◌, ◌≤◌, Bool, true, false, cond, ◌&&◌, eqb, ltb, leb, List, [], ◌∷◌, ◌++◌, length, drop, Ok, sym, refl, ap, ◌∙◌, subst, ap₂, append-nil, arith, length-drop}
 use Rattle.std.proofs.lemmas.List.{drop_all}
 use Rattle.std.proofs.lemmas.Bool.{leb-true, eqb-true, and_parts, ltb-false}
 use Rattle.layout.specs.Shape.{Shape, Lawful}
 use Rattle.leb128.specs.Number.{encode}
 use Rattle.leb128.proofs.Steps.{Bytes}
 use Rattle.image.specs.declared.refusals.Fault.TheVariants as fault
-use Rattle.image.specs.declared.refusals.Refusal.{Refusal}
 use Rattle.image.specs.Content.{Object, Content, numbers, objects_bytes, written}
 use Rattle.image.specs.Steps.{bind}
 use Rattle.image.specs.Read.{refuse, number_at, start_of, sign_at, counts_at, State, root_role, roots_at, objects_at, finished, read}

@@ -1,5 +1,5 @@
 -- One number of an image, as the code reads it: what `read_at` gave, and at a fault its place.
-use Rattle.std.proofs.Common.{◌≡◌, ℕ, List, Ok, Err, sym, refl, ap, ◌∙◌}
+use Rattle.std.proofs.Common.{◌≡◌, ℕ, List, Ok, Err, sym, ap, ◌∙◌}
 use Rattle.leb128.specs.declared.Fault.{Fault}
 use Rattle.leb128.specs.declared.Number.{Number}
 use Rattle.leb128.specs.Number.{read_at}

@@ -1,6 +1,6 @@
 -- Nothing is reported past the end of the image: reading starts inside the bytes, a number that is
 -- read ends inside them, and a fault is reported where something begins or at the end.
-use Rattle.std.proofs.Common.{◌≡◌, ℕ, zero, suc, ◌+◌, ◌-◌, ◌<◌, ◌≤◌, max, cond, ◌&&◌, eqb, ltb, leb, List, [], ◌∷◌, length, Ok, Err, Result, sym, refl, ap, ◌∙◌, subst, arith}
+use Rattle.std.proofs.Common.{◌≡◌, ℕ, zero, suc, ◌+◌, ◌-◌, ◌≤◌, ◌&&◌, eqb, ltb, leb, List, [], ◌∷◌, length, Ok, Err, Result, refl, ap, arith}
 use Rattle.std.proofs.lemmas.Bool.{cond_both}
 use Rattle.layout.specs.Shape.{Shape}
 use Rattle.leb128.specs.declared.Fault.{Fault as NumberFault}
@@ -15,7 +15,7 @@ use Rattle.image.specs.declared.refusals.Refusal.{Refusal}
 use Rattle.image.specs.declared.strict.Role.{Role}
 use Rattle.image.specs.Content.{Object, Content}
 use Rattle.image.specs.Steps.{bind, prefixed, collect}
-use Rattle.image.specs.Read.{fault_place, located, number_at, start_of, sign_at, counts_at, judged, placed, State, value_at, root_role, roots_at, body_at, object_at, objects_at, finished, read}
+use Rattle.image.specs.Read.{fault_place, located, number_at, start_of, sign_at, counts_at, judged, placed, State, value_at, roots_at, body_at, object_at, objects_at, read}
 use Rattle.image.proofs.Stages.{root_step, body_step, object_step}
 
 module _ (bs : List ℕ) (ty : Bytes bs) where

@@ -1,6 +1,6 @@
 -- Reading backwards: if a chain of steps gave a value, each of its steps did. `Runs` lists the steps
 -- of a `collect` with the states between them, so that both ways go element by element.
-use Rattle.std.proofs.Common.{◌≡◌, ℕ, zero, suc, ◌+◌, Bool, true, false, cond, List, [], ◌∷◌, length, Ok, Err, Result, sym, refl, ap, ◌∙◌, subst, arith}
+use Rattle.std.proofs.Common.{◌≡◌, ℕ, zero, suc, ◌+◌, Bool, true, false, cond, List, [], ◌∷◌, length, Ok, Err, Result, refl, ap, ◌∙◌, subst, arith}
 use Rattle.image.specs.Steps.{bind, prefixed, collect}
 
 module _ {A B E : Type 0} where

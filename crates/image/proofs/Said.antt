@@ -1,10 +1,8 @@
 -- What was accepted, part by part: the bytes that a part was read from are the written form of what
 -- it gave, and its references are numbered as first met. So an accepted image is the written form
 -- of its content.
-use Rattle.std.proofs.Common.{◌≡◌, ℕ, zero, suc, ◌+◌, ◌-◌, ◌^◌, ◌<◌, ◌≤◌, max, Bool, true, false, cond, ◌&&◌, eqb, ltb, leb, List, [], ◌∷◌, ◌++◌, length, drop, Ok, Err, Result, sym, refl, ap, ◌∙◌, subst, append_assoc, arith}
-use Rattle.std.proofs.lemmas.List.{drop_all}
-use Rattle.std.proofs.lemmas.Bool.{leb-true, eqb-true, eqb-false, and_parts, cond_both}
-use Rattle.std.proofs.lemmas.Bool.Decides.{nat_tests}
+use Rattle.std.proofs.Common.{◌≡◌, ℕ, ◌+◌, ◌-◌, ◌^◌, ◌<◌, ◌≤◌, max, Bool, true, false, cond, ◌&&◌, eqb, leb, List, [], ◌∷◌, ◌++◌, length, drop, Ok, Err, Result, sym, refl, ap, ◌∙◌, subst, append_assoc, arith}
+use Rattle.std.proofs.lemmas.Bool.{leb-true, eqb-false, and_parts}
 use Rattle.layout.specs.Shape.{Shape}
 use Rattle.leb128.specs.declared.Fault.{Fault as NumberFault}
 use Rattle.leb128.specs.declared.Number.{Number}
@@ -14,15 +12,14 @@ use Rattle.leb128.proofs.Steps.{Bytes}
 use Rattle.leb128.proofs.Laws.{canonical}
 use Rattle.image.specs.declared.refusals.Fault.{Fault}
 use Rattle.image.specs.declared.refusals.Fault.TheVariants as fault
-use Rattle.image.specs.declared.refusals.Refusal.{Refusal}
 use Rattle.image.specs.declared.strict.Role.{Role}
 use Rattle.image.specs.declared.strict.Role.TheVariants as role
-use Rattle.image.specs.Content.{Object, Content, numbers, object_bytes, objects_bytes, written}
-use Rattle.image.specs.Steps.{bind, collect}
-use Rattle.image.specs.Read.{refuse, located, number_at, start_of, sign_at, counts_at, noted, judged, placed, State, value_at, root_role, body_role, roots_at, body_at, object_at, objects_at, finished, read}
-use Rattle.image.specs.Numbering.{Admitted, greatest, greatest_of, Numbered, Ordered, WellNumbered}
+use Rattle.image.specs.Content.{Object, numbers, object_bytes, objects_bytes}
+use Rattle.image.specs.Steps.{bind}
+use Rattle.image.specs.Read.{located, number_at, noted, judged, placed, State, value_at, body_role, body_at, object_at}
+use Rattle.image.specs.Numbering.{Admitted, greatest, greatest_of, Numbered, Ordered}
 use Rattle.image.proofs.Runs.{bind_ok, cond_ok, ok_is, Runs, collect_runs}
-use Rattle.image.proofs.Stages.{root_step, body_step, object_step}
+use Rattle.image.proofs.Stages.{body_step, object_step}
 
 located_ok : (bs : List ℕ) (k at : ℕ) (r : Result Number NumberFault) (p : Number) → located bs k at r ≡ Ok p → r ≡ Ok p
 located_ok bs k at (Ok q) p e = ap Ok (ok_is q p e)

@@ -1,6 +1,6 @@
 -- An image has at least one byte for each word of its objects: every number takes a byte, and an
 -- object is as many numbers as it has words.
-use Rattle.std.proofs.Common.{◌≡◌, ℕ, ◌+◌, ◌-◌, ◌<◌, ◌≤◌, List, [], ◌∷◌, ◌++◌, length, Ok, Err, Result, sym, refl, ap, ◌∙◌, subst, arith, length-append}
+use Rattle.std.proofs.Common.{◌≡◌, ℕ, ◌+◌, ◌≤◌, List, [], ◌∷◌, ◌++◌, length, Ok, Err, Result, sym, refl, ap, subst, arith, length-append}
 use Rattle.layout.specs.Shape.{Shape, Lawful}
 use Rattle.leb128.specs.Number.{encode}
 use Rattle.leb128.proofs.Steps.{Bytes}

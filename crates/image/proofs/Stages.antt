@@ -1,7 +1,7 @@
 -- The definitions of the reader, one way through each: what they give once it is known what their
 -- parts gave. The code takes the same ways, so each lemma answers for one exit of it.
-use Rattle.std.proofs.Common.{◌≡◌, ℕ, zero, suc, ◌+◌, ◌-◌, ◌<◌, ◌≤◌, Bool, true, false, cond, eqb, ltb, leb, List, [], ◌∷◌, ◌++◌, length, IfOk, Ok, Err, fold, Result, sym, refl, ap, ◌∙◌, ap₂, append_assoc, arith}
-use Rattle.std.proofs.lemmas.Bool.{cond-true, cond-false, eq-eqb, ne_eqb, le-leb, lt-leb, lt-ltb, le-ltb}
+use Rattle.std.proofs.Common.{◌≡◌, ℕ, zero, suc, ◌+◌, ◌-◌, ◌<◌, ◌≤◌, true, false, List, [], ◌∷◌, ◌++◌, length, IfOk, Ok, Err, fold, Result, sym, refl, ap, ◌∙◌, ap₂, append_assoc, arith}
+use Rattle.std.proofs.lemmas.Bool.{eq-eqb, le-leb, lt-leb, lt-ltb, le-ltb}
 use Rattle.std.proofs.lemmas.List.Sums.{fold_push}
 use Rattle.layout.specs.Shape.{Shape}
 use Rattle.leb128.specs.declared.Number.{Number}
@@ -10,10 +10,10 @@ use Rattle.image.specs.declared.refusals.Fault.TheVariants as fault
 use Rattle.image.specs.declared.refusals.Refusal.{Refusal}
 use Rattle.image.specs.declared.strict.Role.{Role}
 use Rattle.image.specs.Content.{Object, Content, words, headers}
-use Rattle.image.specs.Steps.{bind, prefixed, collect}
+use Rattle.image.specs.Steps.{prefixed, collect}
 use Rattle.image.specs.declared.strict.Summary.{Summary}
 use Rattle.image.specs.Stage.{Follows, summary_of, summarised, headers_of}
-use Rattle.image.specs.Read.{refuse, number_at, judged, placed, State, value_at, root_role, body_role, roots_at, start_of, sign_at, counts_at, body_at, object_at, objects_at, read}
+use Rattle.image.specs.Read.{refuse, number_at, judged, State, value_at, root_role, body_role, roots_at, start_of, sign_at, counts_at, body_at, object_at, objects_at, read}
 
 module _ (bs : List ℕ) (n k : ℕ) (r : Role) (m at : ℕ) where
   pub value_fault : (f : Refusal) → number_at bs k at ≡ Err f → value_at bs n k r (m, at) ≡ Err f

@@ -1,19 +1,18 @@
 -- The other way: where the bytes from a place on begin with the written form of something well
 -- numbered, reading there gives it and stops behind it.
-use Rattle.std.proofs.Common.{◌≡◌, ℕ, zero, suc, ◌+◌, ◌-◌, ◌^◌, ◌<◌, ◌≤◌, max, Bool, true, false, cond, ◌&&◌, eqb, ltb, leb, List, [], ◌∷◌, ◌++◌, length, drop, Ok, Err, Result, sym, refl, ap, ◌∙◌, subst, append_assoc, arith}
+use Rattle.std.proofs.Common.{◌≡◌, ℕ, ◌+◌, ◌-◌, ◌^◌, ◌<◌, ◌≤◌, max, ◌&&◌, eqb, leb, List, [], ◌∷◌, ◌++◌, length, drop, Ok, Err, sym, refl, ap, ◌∙◌, subst, append_assoc, arith}
 use lib.Seq.{drop-append_seam}
 use Rattle.std.proofs.lemmas.List.{drop-drop}
 use Rattle.std.proofs.lemmas.Bool.{le-leb, ne_eqb, and_from, cond-true, cond-false}
 use Rattle.layout.specs.Shape.{Shape}
-use Rattle.leb128.specs.declared.Number.{Number}
-use Rattle.leb128.specs.Number.{encode, read_at}
+use Rattle.leb128.specs.Number.{encode}
 use Rattle.leb128.proofs.Laws.{reads_back}
 use Rattle.image.specs.declared.refusals.Fault.TheVariants as fault
 use Rattle.image.specs.declared.strict.Role.{Role}
 use Rattle.image.specs.declared.strict.Role.TheVariants as role
-use Rattle.image.specs.Content.{Object, Content, numbers, object_bytes, objects_bytes, written}
-use Rattle.image.specs.Steps.{bind, collect}
-use Rattle.image.specs.Read.{number_at, noted, judged, State, value_at, body_role, body_at, object_at, objects_at}
+use Rattle.image.specs.Content.{Object, numbers, object_bytes, objects_bytes}
+use Rattle.image.specs.Steps.{collect}
+use Rattle.image.specs.Read.{number_at, noted, judged, State, value_at, body_role, body_at}
 use Rattle.image.specs.Numbering.{Admitted, greatest, greatest_of, Numbered, Ordered}
 use Rattle.image.proofs.Numbers.{number_ok}
 use Rattle.image.proofs.Runs.{Runs, runs_collect}

@@ -100,7 +100,7 @@ fn root_role(count: u32, i: u32) -> Role
 
 // The role of a position of an object with this header.
 fn body_role<L: Layout>(header: u32, position: u32) -> Role
-    ensures { result ≡ body_role shape header position }
+    ensures { result ≡ body_role L.shape header position }
 {
     if L::is_reference(header, position) {
         Role::Reference
@@ -132,7 +132,7 @@ fn body<L: Layout>(
     greatest: u32,
     object: u32,
 ) -> Result<u32, Refusal>
-    ensures value { Follows result (body_at shape reader.old.bytes.now objects object header (greatest, reader.old.position)) (λ m v. v.1 ≡ (m, reader.new.position)) }
+    ensures value { Follows result (body_at L.shape reader.old.bytes.now objects object header (greatest, reader.old.position)) (λ m v. v.1 ≡ (m, reader.new.position)) }
     ensures same { reader.new.bytes.now ≡ reader.old.bytes.now }
 {
     let mut greatest = greatest;
@@ -158,7 +158,7 @@ fn object<L: Layout>(
     greatest: u32,
     number: u32,
 ) -> Result<(u32, u32), Refusal>
-    ensures value { Follows result (object_at shape reader.old.bytes.now objects number (greatest, reader.old.position)) (λ p o. (o.0.header ≡ p.0) × (o.1 ≡ (p.1, reader.new.position))) }
+    ensures value { Follows result (object_at L.shape reader.old.bytes.now objects number (greatest, reader.old.position)) (λ p o. (o.0.header ≡ p.0) × (o.1 ≡ (p.1, reader.new.position))) }
     ensures same { reader.new.bytes.now ≡ reader.old.bytes.now }
 {
     let place = reader.position();
@@ -208,7 +208,7 @@ fn objects<L: Layout, V: Visitor>(
 
 // The sign of the layout.
 fn sign<L: Layout>(reader: &mut Reader) -> Result<(), Refusal>
-    ensures value { Follows result (sign_at shape reader.old.bytes.now reader.old.position) (λ _ at. at ≡ reader.new.position) }
+    ensures value { Follows result (sign_at L.shape reader.old.bytes.now reader.old.position) (λ _ at. at ≡ reader.new.position) }
     ensures same { reader.new.bytes.now ≡ reader.old.bytes.now }
 {
     let place = reader.position();
@@ -278,8 +278,8 @@ pub fn visit<L: Layout, V: Visitor>(bytes: &[u8], visitor: &mut V) -> Result<Sum
 
 /// Checks an image of the layout `L` strictly.
 pub fn check<L: Layout>(bytes: &[u8]) -> Result<Summary, Refusal>
-    ensures reads { result ≡ summarised shape (read shape bytes.now) }
-    ensures exact { Exact shape bytes.now }
+    ensures reads { result ≡ summarised L.shape (read L.shape bytes.now) }
+    ensures exact { Exact L.shape bytes.now }
     ensures within { WithinBytes bytes.now result }
 {
     visit::<L, Unwatched>(bytes, &mut Unwatched)

@@ -1,6 +1,6 @@
-use Rattle.std.proofs.Common.{◌≡◌, [], sym, refl, ap, ◌∙◌, arith}
-use Rattle.image.specs.Read.{body_role, body_at}
-use Rattle.image.proofs.Stages.{body_step, going_step, going_fault, going_end, body-start, value_step, value_stop}
+use Rattle.std.proofs.Common.{[], refl, ◌∙◌, arith}
+use Rattle.image.specs.Read.{body_role}
+use Rattle.image.proofs.Stages.{body_step, going_step, going_fault, body-start, value_step, value_stop}
 use Rattle.image.proofs.strict.body.Goals as goal
 
 pub loop-position-init : goal.loop-position-init
@@ -13,7 +13,7 @@ returns-in-Err g c =
     let p = c.loop-position.invariant in
     record {
       value = going_fault (body_step c.args.reader.now.bytes.now c.args.objects g.L.Layout.shape c.args.object c.args.header) _ p.2.0 c.loop-position.position _ _ c.in-Err.refusal (omega arith)
-          (value_stop c.args.reader.now.bytes.now c.loop-position.reader.bytes.now c.args.objects c.args.object c.body-role.result (body_role g.L.Layout.shape c.args.header c.loop-position.position) _ p.1 c.body-role.ensures _ q.value)
+          (value_stop c.args.reader.now.bytes.now c.loop-position.reader.bytes.now c.args.objects c.args.object c.body_role.result (body_role g.L.Layout.shape c.args.header c.loop-position.position) _ p.1 c.body_role.ensures _ q.value)
           p.2.1;
       same = q.same ∙ p.1;
     }
@@ -27,7 +27,7 @@ loop-position-preserved g c =
       (
         _,
         going_step (body_step c.args.reader.now.bytes.now c.args.objects g.L.Layout.shape c.args.object c.args.header) _ p.2.0 c.loop-position.position _ _ _ _ _ (omega arith)
-            (value_step c.args.reader.now.bytes.now c.loop-position.reader.bytes.now c.args.objects c.args.object c.body-role.result (body_role g.L.Layout.shape c.args.header c.loop-position.position) _ p.1 c.body-role.ensures _ _ q.value.1 q.value.2)
+            (value_step c.args.reader.now.bytes.now c.loop-position.reader.bytes.now c.args.objects c.args.object c.body_role.result (body_role g.L.Layout.shape c.args.header c.loop-position.position) _ p.1 c.body_role.ensures _ _ q.value.1 q.value.2)
             p.2.1,
       ),
     )

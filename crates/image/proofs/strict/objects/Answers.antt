@@ -1,5 +1,4 @@
-use Rattle.std.proofs.Common.{◌≡◌, ◌+◌, ◌≤◌, [], Ok, sym, refl, ap, ◌∙◌, arith}
-use Rattle.image.specs.Read.{objects_at}
+use Rattle.std.proofs.Common.{◌≡◌, ◌+◌, ◌≤◌, [], Ok, refl, ap, ◌∙◌, arith}
 use Rattle.image.proofs.Stages.{object_step, objects-start, going_step, going_fault, counted_step, object_over}
 use Rattle.image.proofs.strict.objects.Goals as goal
 

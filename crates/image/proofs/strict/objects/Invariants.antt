@@ -1,4 +1,4 @@
-use Rattle.std.proofs.Common.{◌≡◌, ℕ, ◌+◌, ◌-◌, ◌*◌, ◌≤◌, List}
+use Rattle.std.proofs.Common.{◌≡◌, ◌+◌, ◌-◌, ◌*◌, ◌≤◌, List}
 use Rattle.image.specs.Content.{Object}
 use Rattle.image.specs.Read.{objects_at}
 use Rattle.image.proofs.Stages.{Going, object_step, Counted}

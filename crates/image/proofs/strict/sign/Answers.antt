@@ -1,10 +1,10 @@
-use Rattle.std.proofs.Common.{◌≡◌, sym, refl, ap, ◌∙◌}
+use Rattle.std.proofs.Common.{refl, ◌∙◌}
 use Rattle.image.proofs.Stages.{number_is, sign_ok}
 use Rattle.image.proofs.strict.sign.Goals as goal
 
 pub returns : goal.returns
 returns g c =
-    let q = c.in-ok-sign.ensures in
+    let q = c.in_ok-sign.ensures in
     record {
       value = (
         _,

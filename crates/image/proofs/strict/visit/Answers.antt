@@ -9,12 +9,12 @@ use Rattle.image.proofs.strict.visit.Goals as goal
 
 pub returns : goal.returns
 returns g c =
-    let bytes : Bytes c.args.bytes.now = λ i. omega (arith, c.type-inv.bytes i) in
-    let reads : c.read-image.result ≡ summarised g.L.Layout.shape (read g.L.Layout.shape c.args.bytes.now) =
-    follows_summarised g.L.Layout.shape _ _ _ c.read-image.ensures in
+    let bytes : Bytes c.args.bytes.now = λ i. omega (arith, c.type_inv.bytes i) in
+    let reads : c.read_image.result ≡ summarised g.L.Layout.shape (read g.L.Layout.shape c.args.bytes.now) =
+    follows_summarised g.L.Layout.shape _ _ _ c.read_image.ensures in
     record {
       reads = reads;
-      told = follows_told g.L.Layout.shape g.V.Visitor.next _ _ _ _ c.read-image.ensures;
+      told = follows_told g.L.Layout.shape g.V.Visitor.next _ _ _ _ c.read_image.ensures;
       exact = exact g.L.Layout.shape g.met.L.Layout.lawful c.args.bytes.now bytes;
       within = read_within g.L.Layout.shape g.met.L.Layout.lawful c.args.bytes.now bytes _ reads;
     }

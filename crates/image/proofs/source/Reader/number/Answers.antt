@@ -8,4 +8,4 @@ returns-in-Ok c =
 
 pub returns-in-Err : goal.returns-in-Err
 returns-in-Err c =
-    record { value = number_fault c.args.self.now.bytes.now c.args.object c.args.self.now.position c.in-Err.fault c.fault-place.result c.in-Err.ensures.value (sym c.fault-place.ensures); same = refl; stays = refl }
+    record { value = number_fault c.args.self.now.bytes.now c.args.object c.args.self.now.position c.in-Err.fault c.fault_place.result c.in-Err.ensures.value (sym c.fault_place.ensures); same = refl; stays = refl }
