@@ -1,5 +1,5 @@
 -- Zeros are written one after another.
-use Rattle.std.proofs.Common.{◌≡◌, ℕ, suc, ◌+◌, List, set, sym, refl, ap, ◌∙◌, add-one}
+use Rattle.std.proofs.Common.{◌≡◌, ℕ, ◌+◌, List, set, refl, ap, ◌∙◌, add-one}
 use Rattle.memory.specs.Objects.{zeroed}
 
 pub zeros_none : (ws : List ℕ) (p : ℕ) → ws ≡ zeroed ws p 0

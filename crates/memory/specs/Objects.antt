@@ -1,5 +1,5 @@
 -- Making a heap, and making objects in it.
-use Rattle.std.specs.Prelude.{ℕ, zero, suc, ◌+◌, ◌-◌, Bool, cond, List, length, replicate, Some, None, Ok, Err, Option, Result, nat_lt, slice_set}
+use Rattle.std.specs.Prelude.{ℕ, zero, suc, ◌+◌, ◌-◌, cond, List, length, replicate, Some, None, Ok, Err, Option, Result, nat_lt, slice_set}
 use Rattle.bitset.specs.Set.{empty}
 use Rattle.layout.specs.Shape.{Shape}
 use Rattle.model.specs.declared.edits.Refusal.{Refusal}

@@ -1,4 +1,4 @@
-use Rattle.std.proofs.Common.{sym, refl, ◌∙◌}
+use Rattle.std.proofs.Common.{refl, ◌∙◌}
 use Rattle.memory.proofs.Zeros.{zeros_none, zeros_more}
 use Rattle.memory.proofs.objects.write_zeros.Goals as goal
 
