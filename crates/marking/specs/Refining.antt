@@ -1,5 +1,5 @@
 -- Refining, one card at a time.
-use Rattle.std.specs.Prelude.{ℕ, zero, suc, ◌+◌, ◌-◌, ◌*◌, ◌/◌, Bool, cond, Some, None, Option, ◌==◌}
+use Rattle.std.specs.Prelude.{ℕ, zero, suc, ◌+◌, ◌-◌, ◌*◌, ◌/◌, cond, Some, None, Option, ◌==◌}
 use Rattle.bitset.specs.Set.{first_of}
 use Rattle.layout.specs.Shape.{Shape}
 use Rattle.memory.specs.State.{State, word_in, with_cards}

@@ -1,10 +1,9 @@
 -- Marking, one object at a time.
-use Rattle.std.specs.Prelude.{ℕ, zero, suc, ◌+◌, ◌-◌, Bool, cond, Some, None, Ok, Err, Option, Result, slice_index}
+use Rattle.std.specs.Prelude.{ℕ, zero, suc, ◌+◌, ◌-◌, cond, Some, None, Ok, Err, Option, Result, slice_index}
 use Rattle.bitset.specs.Set.{first_of}
 use Rattle.layout.specs.Shape.{Shape}
 use Rattle.memory.specs.Edits.{shaded_old}
 use Rattle.memory.specs.State.{State, word_in, root_in, with_marks, with_regions, with_phase}
-use Rattle.memory.specs.declared.phase.Phase.{Phase}
 use Rattle.memory.specs.declared.phase.Phase.TheVariants.{Marking, Marked}
 use Rattle.model.specs.declared.edits.Refusal.{Refusal}
 use Rattle.tables.specs.Marks.{no_marks, shaded, finished}

@@ -5,4 +5,4 @@ pub loop-k-init : goal.loop-k-init
 loop-k-init g c = objects-none _ _ _
 
 pub loop-k-preserved : goal.loop-k-preserved
-loop-k-preserved g c = objects_more _ _ _ _ _ _ c.loop-k.invariant c.enter-object.ensures
+loop-k-preserved g c = objects_more _ _ _ _ _ _ c.loop-k.invariant c.enter_object.ensures

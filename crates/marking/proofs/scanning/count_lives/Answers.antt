@@ -5,4 +5,4 @@ pub loop-g-init : goal.loop-g-init
 loop-g-init g c = lives_none _
 
 pub loop-g-preserved : goal.loop-g-preserved
-loop-g-preserved g c = lives_more _ _ _ _ c.loop-g.invariant c.count-live.ensures
+loop-g-preserved g c = lives_more _ _ _ _ c.loop-g.invariant c.count_live.ensures

@@ -5,4 +5,4 @@ pub loop-k-init : goal.loop-k-init
 loop-k-init g c = fields_none _ _ _ _
 
 pub loop-k-preserved : goal.loop-k-preserved
-loop-k-preserved g c = fields_more _ _ _ _ _ _ _ c.loop-k.invariant c.scan-field.ensures
+loop-k-preserved g c = fields_more _ _ _ _ _ _ _ c.loop-k.invariant c.scan_field.ensures

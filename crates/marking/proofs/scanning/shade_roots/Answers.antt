@@ -5,4 +5,4 @@ pub loop-k-init : goal.loop-k-init
 loop-k-init g c = roots-none _
 
 pub loop-k-preserved : goal.loop-k-preserved
-loop-k-preserved g c = roots_more _ _ _ _ c.loop-k.invariant c.shade-root.ensures
+loop-k-preserved g c = roots_more _ _ _ _ c.loop-k.invariant c.shade_root.ensures
