@@ -1,6 +1,6 @@
 -- A step of a marking scans the pending object at the lowest place, or ends the marking where none is pending. Then the weights
 -- are the words of the marked objects, at most those in use, and they become the live counts.
-use Rattle.std.proofs.Common.{◌≡◌, ℕ, zero, suc, ◌*◌, ◌<◌, ◌≤◌, false, not, length, get_or, Some, None, Ok, Option, sym, refl, ap, ◌∙◌, subst, inl, inr, arith, length-set}
+use Rattle.std.proofs.Common.{◌≡◌, ℕ, zero, suc, ◌*◌, ◌<◌, ◌≤◌, false, length, get_or, Some, None, Ok, Option, sym, refl, ap, ◌∙◌, subst, inl, inr, arith, length-set}
 use Rattle.bitset.specs.Set.{first_of}
 use Rattle.bitset.proofs.Set.{first_of_some, first_of_none}
 use Rattle.layout.specs.Shape.{Shape, Lawful}

@@ -1,5 +1,5 @@
 -- What the edits do to objects, said without how it is done. Objects stand where they stood.
-use Rattle.std.specs.Prelude.{◌≡◌, ℕ, suc, ◌+◌, ◌*◌, ◌/◌, ◌<◌, ◌≤◌, Bool, true, false, cond, ◌⊎◌, set, Some, None, Ok, Err, Option, Result, ◌==◌, ◌≢◌, slice_set}
+use Rattle.std.specs.Prelude.{◌≡◌, ℕ, suc, ◌+◌, ◌*◌, ◌/◌, ◌<◌, ◌≤◌, true, false, cond, ◌⊎◌, Some, None, Ok, Err, Option, Result, ◌==◌, ◌≢◌, slice_set}
 use Rattle.layout.specs.Shape.{Shape, plain}
 use Rattle.memory.specs.State.{State, word_in, root_in}
 use Rattle.memory.specs.declared.phase.Phase.TheVariants.{Idle, Marking}

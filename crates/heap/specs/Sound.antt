@@ -4,7 +4,7 @@ use Rattle.layout.specs.Shape.{Shape}
 use Rattle.memory.specs.State.{State, word_in, root_in}
 use Rattle.memory.specs.declared.phase.Phase.TheVariants.{Idle, Marking, Marked}
 use Rattle.tables.specs.declared.region.Region.{Region}
-use Rattle.tables.specs.declared.region.Kind.TheVariants.{Free, Open, Closed}
+use Rattle.tables.specs.declared.region.Kind.TheVariants.{Open}
 use Rattle.tables.specs.Regions.{region_at, is_free_at, free_count}
 use Rattle.heap.specs.Tiles.{Tiles, total, held_by}
 

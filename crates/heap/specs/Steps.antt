@@ -1,5 +1,5 @@
 -- What the steps of a marking and of refining do, said without how it is done. They move no object and change no word.
-use Rattle.std.specs.Prelude.{◌≡◌, ℕ, suc, ◌+◌, ◌*◌, ◌/◌, ◌<◌, Bool, true, false, cond, ◌⊎◌, Some, Ok, Err, Result, ◌≢◌}
+use Rattle.std.specs.Prelude.{◌≡◌, ℕ, suc, ◌+◌, ◌*◌, ◌/◌, ◌<◌, true, false, ◌⊎◌, Some, Ok, Err, Result, ◌≢◌}
 use Rattle.layout.specs.Shape.{Shape}
 use Rattle.memory.specs.State.{State, word_in, root_in}
 use Rattle.memory.specs.declared.phase.Phase.TheVariants.{Marking, Marked}
