@@ -1,7 +1,7 @@
 -- A heap and the heap that never collects agree: the first is sound, the references of the second name its objects, and the two
 -- are tied. Then each root is nil in both, or holds an object and its number.
-use Rattle.std.proofs.Common.{◌≡◌, ℕ, zero, suc, ◌+◌, ◌-◌, ◌^◌, ◌<◌, ◌≤◌, min, Bool, true, false, cond, ◌&&◌, eqb, ltb, ◌⊎◌, length, get_or, Some, None, Option, sym, refl, ap, ◌∙◌, subst, inl, inr, arith}
-use Rattle.image.specs.Content.{Content, Object}
+use Rattle.std.proofs.Common.{◌≡◌, ℕ, suc, ◌-◌, ◌<◌, true, length, Some, None, Option, sym, refl, ap, ◌∙◌, arith}
+use Rattle.image.specs.Content.{Content}
 use Rattle.heap.specs.Effects.{graph_of as heapGraph}
 use Rattle.heap.specs.Sound.{Sound}
 use Rattle.heap.proofs.Geometry.{place_below}
@@ -12,7 +12,7 @@ use Rattle.model.specs.Edits.{held, object_at, numbered, graph_of as modelGraph}
 use Rattle.model.specs.Graph.{Reach, by_root}
 use Rattle.model.specs.Tied.{Tied}
 use Rattle.model.proofs.Contents.{Whole}
-use Rattle.std.proofs.lemmas.Bool.{cases_eq, ltb-true}
+use Rattle.std.proofs.lemmas.Bool.{ltb-true}
 
 pub record Agree (S : Shape) (s : State) (m : Content) (ν : ℕ → ℕ) : Type 0 where
   pub sound : Sound S s

@@ -1,18 +1,18 @@
 -- The edits that alter nothing are answered alike: each asks for a root, a header or a plain word of an object that a root
 -- holds, and there the two agree. The heap that never collects never lacks space.
-use Rattle.std.proofs.Common.{◌≡◌, ℕ, zero, suc, ◌+◌, Bool, true, false, cond, ◌&&◌, eqb, ltb, ◌⊎◌, Some, None, Ok, Err, sym, refl, ap, ◌∙◌, subst, ap₂, inl, inr, arith}
+use Rattle.std.proofs.Common.{◌≡◌, ℕ, suc, ◌+◌, Bool, true, false, cond, ◌&&◌, eqb, ltb, Some, None, Ok, Err, sym, refl, ap, ◌∙◌, ap₂, inl, inr, arith}
 use Rattle.image.specs.Content.{Content}
-use Rattle.layout.specs.Shape.{Shape, Lawful, plain}
+use Rattle.layout.specs.Shape.{Shape, plain}
 use Rattle.memory.specs.State.{State, word_in, root_in}
 use Rattle.memory.specs.Edits.{reference_to, peek_word, peek_at, same_roots, head_of, head_at}
 use Rattle.model.specs.Edits.{is_root, held, numbered, word_at, of_object, edited, peek, same, head}
 use Rattle.model.specs.declared.edits.Edit.{Edit}
 use Rattle.model.specs.declared.edits.Edit.TheVariants.{New, Set, Get, Put, Peek, Copy, Clear, Same, Head}
-use Rattle.model.specs.declared.edits.Refusal.TheVariants.{RootAbove63, RootNil, WrongPosition}
+use Rattle.model.specs.declared.edits.Refusal.TheVariants.{RootNil, WrongPosition}
 use Rattle.model.specs.declared.edits.Reply.{Reply}
-use Rattle.model.specs.declared.edits.Reply.TheVariants.{Granted, Word, Same as IsSame, Refused}
+use Rattle.model.specs.declared.edits.Reply.TheVariants.{Word, Same as IsSame, Refused}
 use Rattle.std.proofs.lemmas.Bool.Decides.{nat_tests}
-use Rattle.std.proofs.lemmas.Bool.{cases_Bool, cases_eq, cond-true, cond-false, cond_both, eq-eqb, ne_eqb}
+use Rattle.std.proofs.lemmas.Bool.{cases_Bool, cases_eq, cond-true, cond-false, eq-eqb, ne_eqb}
 use Rattle.life.specs.Faithful.{lacking}
 use Rattle.life.specs.Serving.{word_answered, same_answered}
 use Rattle.life.proofs.Agree.{Agree, At, none, some, at_root, head_is, object_is, reference_is}

@@ -1,6 +1,6 @@
 -- Each call of a life: an edit ends for want of space or alike in both heaps, and a step of a marking, or a refined card, leaves
 -- every object and root as it was.
-use Rattle.std.proofs.Common.{◌≡◌, ℕ, suc, ◌+◌, ◌<◌, ◌≤◌, Bool, true, false, cond, List, [], ◌∷◌, length, get_or, Some, None, Ok, Err, Option, Result, sym, refl, ap, ◌∙◌, subst, ap₂, arith}
+use Rattle.std.proofs.Common.{◌≡◌, ℕ, ◌+◌, ◌<◌, Bool, true, false, cond, List, ◌∷◌, length, get_or, Some, None, Ok, Err, Result, sym, refl, ap, ◌∙◌, subst, ap₂, arith}
 use Rattle.bitset.specs.Set.{first_of}
 use Rattle.bitset.proofs.Set.{first_some}
 use Rattle.image.specs.Content.{Content}
@@ -27,7 +27,7 @@ use Rattle.marking.specs.declared.refining.Refined.TheVariants.{Refined as OneRe
 use Rattle.marking.specs.declared.scanning.Marked.{Marked as Progress}
 use Rattle.marking.specs.declared.scanning.Marked.TheVariants.{Scanned as OneScanned, Done as AllDone}
 use Rattle.memory.specs.Edits.{reference_to}
-use Rattle.memory.specs.State.{State, word_in}
+use Rattle.memory.specs.State.{State}
 use Rattle.memory.specs.declared.phase.Phase.{Phase}
 use Rattle.memory.specs.declared.phase.Phase.TheVariants.{Idle, Marking, Marked}
 use Rattle.model.specs.Edits.{edited as modelEdited}
@@ -35,7 +35,7 @@ use Rattle.model.specs.declared.edits.Edit.{Edit}
 use Rattle.model.specs.declared.edits.Edit.TheVariants.{New, Set, Get, Put, Peek, Copy, Clear, Same, Head}
 use Rattle.model.specs.declared.edits.Refusal.{Refusal}
 use Rattle.model.specs.declared.edits.Reply.{Reply}
-use Rattle.model.proofs.Views.{Looks, tied_looks}
+use Rattle.model.proofs.Views.{tied_looks}
 use Rattle.std.proofs.lemmas.Bool.{false≢true}
 use Rattle.life.specs.declared.calls.Call.{Call}
 use Rattle.life.specs.declared.calls.Call.TheVariants.{Edit as Asked, Begin, Mark, Refine}

@@ -1,7 +1,7 @@
 -- What is true while a marking is under way, and when it is done. The snapshot m₀ is the heap that never collects as it stood
 -- when the marking began; m is the same heap now, ν how the objects of the heap t are numbered there, and xs the numbers of the
 -- objects scanned since.
-use Rattle.std.proofs.Common.{◌≡◌, ℕ, suc, ◌+◌, ◌<◌, ◌≤◌, Bool, true, false, ◌⊎◌, List, length}
+use Rattle.std.proofs.Common.{◌≡◌, ℕ, suc, ◌+◌, ◌<◌, ◌≤◌, true, false, ◌⊎◌, List, length}
 use Rattle.image.specs.Content.{Content}
 use Rattle.layout.specs.Shape.{Shape}
 use Rattle.memory.specs.State.{State, word_in}

@@ -1,6 +1,6 @@
 -- new makes an object in both, under the next number there: the two go on agreeing. Where the heap lacks space it alters
 -- nothing, and the other does not hear of it.
-use Rattle.std.proofs.Common.{◌≡◌, ℕ, zero, suc, ◌+◌, ◌-◌, ◌<◌, ◌≤◌, Bool, true, false, cond, eqb, ltb, ◌⊎◌, length, get_or, set, Some, None, Ok, Err, Option, Result, sym, refl, ap, ◌∙◌, subst, inl, inr, arith}
+use Rattle.std.proofs.Common.{◌≡◌, ℕ, suc, ◌+◌, ◌<◌, Bool, true, false, cond, eqb, ltb, ◌⊎◌, length, get_or, Some, None, Option, Result, sym, refl, ap, ◌∙◌, subst, inl, inr, arith}
 use mathlib.Core.Path.{fun_ext}
 use Rattle.image.specs.Content.{Content}
 use Rattle.heap.specs.Effects.{graph_of as heapGraph, Made, Makes}
@@ -16,7 +16,6 @@ use Rattle.model.specs.Tied.{Tied}
 use Rattle.model.specs.declared.edits.Edit.{Edit}
 use Rattle.model.specs.declared.edits.Edit.TheVariants.{New}
 use Rattle.model.specs.declared.edits.Refusal.{Refusal}
-use Rattle.model.specs.declared.edits.Refusal.TheVariants.{NoSpace}
 use Rattle.model.specs.declared.edits.Reply.{Reply}
 use Rattle.model.specs.declared.edits.Reply.TheVariants.{Granted}
 use Rattle.model.proofs.Adding.{renumbered, tied_new}
@@ -25,7 +24,7 @@ use Rattle.model.proofs.Contents.{set_tells}
 use Rattle.model.proofs.NewObject.{new_equal, new-whole}
 use Rattle.model.proofs.Views.{Looks, tied_looks, tied_equal}
 use Rattle.std.proofs.lemmas.Bool.Decides.{nat_tests}
-use Rattle.std.proofs.lemmas.Bool.{cases_Bool, cases_eq, cond-true, cond-false, ltb-true, le-ltb}
+use Rattle.std.proofs.lemmas.Bool.{cases_Bool, cond-true, cond-false, ltb-true, le-ltb}
 use Rattle.tables.specs.declared.regions.Regions.{Regions}
 use Rattle.tables.specs.Regions.{taken}
 use Rattle.life.specs.Faithful.{lacking, number_new, number_on}

@@ -1,5 +1,5 @@
 -- get, copy and clear make a root hold what a reference or a root of both holds, or nil: the two go on agreeing.
-use Rattle.std.proofs.Common.{◌≡◌, ℕ, zero, suc, ◌+◌, ◌-◌, ◌<◌, ◌≤◌, Bool, true, false, cond, ◌&&◌, eqb, ltb, ◌⊎◌, length, get_or, set, Some, None, Ok, Err, Option, sym, refl, ap, ◌∙◌, subst, inl, inr, arith}
+use Rattle.std.proofs.Common.{◌≡◌, ℕ, zero, suc, ◌+◌, ◌-◌, ◌<◌, Bool, true, false, cond, ◌&&◌, eqb, ltb, length, get_or, Some, None, Ok, Err, Option, sym, refl, ap, ◌∙◌, subst, inl, inr, arith}
 use Rattle.image.specs.Content.{Content}
 use Rattle.heap.specs.Effects.{graph_of as heapGraph, Held, Gets, Copies, Clears}
 use Rattle.heap.specs.Sound.{Sound}
@@ -8,17 +8,15 @@ use Rattle.layout.specs.Shape.{Shape, Lawful}
 use Rattle.memory.specs.State.{State, word_in, root_in, with_root as withHeapRoot}
 use Rattle.memory.specs.Edits.{reference_to, named_by, get_reference, get_at, copy_root, clear_root}
 use Rattle.model.specs.Edits.{held, object_at, numbered, word_at, with_root, get_reference as modelGet, copy, clear, graph_of as modelGraph}
-use Rattle.model.specs.Graph.{Graph}
-use Rattle.model.specs.declared.edits.Refusal.TheVariants.{RootAbove63, RootNil, WrongPosition}
+use Rattle.model.specs.declared.edits.Refusal.TheVariants.{WrongPosition}
 use Rattle.model.specs.declared.edits.Reply.{Reply}
 use Rattle.model.specs.declared.edits.Reply.TheVariants.{Granted, Refused}
-use Rattle.model.proofs.Changes.{hold, Matched, nil, object}
+use Rattle.model.proofs.Changes.{hold, Matched, nil}
 use Rattle.model.proofs.Contents.{root_equal, root-whole, set_tells}
 use Rattle.model.proofs.Holding.{root_matched, field_matched, tied_hold}
 use Rattle.model.proofs.Views.{Looks, tied_looks, tied_equal}
-use Rattle.std.proofs.lemmas.Bool.Decides.{nat_tests}
-use Rattle.std.proofs.lemmas.Bool.{cases_Bool, cases_eq, cond-true, cond-false, eq-eqb, ne_eqb, ltb-true, and_parts}
-use Rattle.life.proofs.Agree.{Agree, At, none, some, at_root, head_is, object_is, number_below, reached, reference_is}
+use Rattle.std.proofs.lemmas.Bool.{cases_Bool, cond-true, cond-false, eq-eqb, ne_eqb, ltb-true, and_parts}
+use Rattle.life.proofs.Agree.{Agree, At, none, some, at_root, head_is, object_is, reached, reference_is}
 use Rattle.life.proofs.Answering.{of_object_lem, of_nil}
 use Rattle.life.proofs.Words.{Alike, alike}
 

@@ -1,21 +1,16 @@
 -- A life: each call keeps the heap and the heap that never collects in agreement, and the facts of a marking true. So by
 -- induction over the calls the answers to the edits are those of the heap that heard the same edits.
-use Rattle.std.proofs.Common.{◌≡◌, ℕ, suc, ◌*◌, ◌≤◌, Bool, true, false, cond, List, [], ◌∷◌, length, sym, refl, ap, ◌∙◌, subst, ap₂, arith}
-use Rattle.image.specs.Content.{Content}
+use Rattle.std.proofs.Common.{◌≡◌, ◌*◌, ◌≤◌, List, [], ◌∷◌, length, sym, refl, ap, ◌∙◌, subst}
 use Rattle.heap.specs.Effects.{Outside}
-use Rattle.heap.specs.Sound.{Sound}
 use Rattle.heap.proofs.Keeps.{same_outside}
-use Rattle.layout.specs.Shape.{Shape, Lawful}
-use Rattle.memory.specs.State.{State, word_in}
-use Rattle.model.specs.Edits.{edited as modelEdited}
+use Rattle.layout.specs.Shape.{Shape}
+use Rattle.memory.specs.State.{State}
 use Rattle.model.specs.declared.edits.Edit.{Edit}
 use Rattle.model.specs.declared.edits.Reply.{Reply}
 use Rattle.life.specs.declared.calls.Call.{Call}
-use Rattle.life.specs.declared.calls.Call.TheVariants.{Edit as Asked, Begin, Mark, Refine}
 use Rattle.life.specs.declared.calls.Answer.{Answer}
-use Rattle.life.specs.declared.calls.Answer.TheVariants.{Edit as Replied}
-use Rattle.life.specs.Serving.{edited, served, answers, after}
-use Rattle.life.specs.Faithful.{lacking, heard, heard_of, seen, seen_of, replies, told, Both, serving, living, number_on}
+use Rattle.life.specs.Serving.{served, answers, after}
+use Rattle.life.specs.Faithful.{heard, heard_of, seen, seen_of, replies, told, Both, serving, living}
 use Rattle.life.specs.Snapshot.{scan_count, scan_count_of}
 use Rattle.life.proofs.Agree.{Agree}
 use Rattle.life.proofs.Facts.{Facts}

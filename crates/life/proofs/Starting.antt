@@ -1,14 +1,12 @@
 -- A heap that was just made agrees with the heap that never collects at its start: there is no object and no root holds one.
-use Rattle.std.proofs.Common.{◌≡◌, ℕ, suc, true, false, List, get_or, replicate, Some, None, Option, sym, refl, ap, ◌∙◌, inl, inr, arith}
+use Rattle.std.proofs.Common.{◌≡◌, ℕ, suc, List, get_or, replicate, None, Option, ap, inl, inr, arith}
 use lib.ListN.{length-replicate, get_or-replicate}
-use Rattle.heap.specs.Effects.{graph_of as heapGraph}
 use Rattle.heap.proofs.Making.{making_sound}
 use Rattle.layout.specs.Shape.{Shape}
 use Rattle.memory.specs.Edits.{reference_to}
 use Rattle.memory.specs.Objects.{making}
 use Rattle.model.specs.Edits.{start, graph_of as modelGraph}
 use Rattle.model.specs.Graph.{Reach, by_root, by_field}
-use Rattle.model.specs.Tied.{Tied}
 use Rattle.model.proofs.Contents.{start-whole, zeros}
 use Rattle.std.proofs.lemmas.Bool.{cases_lt, false≢true}
 use Rattle.std.proofs.lemmas.List.{get_or_past}

@@ -1,12 +1,11 @@
 -- The loop over the calls: what holds after k of them, one call more, and the end.
-use Rattle.std.proofs.Common.{◌≡◌, ℕ, ◌+◌, ◌<◌, ◌≤◌, min, Bool, cond, List, [], ◌∷◌, ◌++◌, length, get_or, take, drop, set, sym, refl, ap, ◌∙◌, subst, ap₂, arith, take-append-drop}
+use Rattle.std.proofs.Common.{◌≡◌, ℕ, ◌+◌, ◌<◌, ◌≤◌, List, [], ◌∷◌, ◌++◌, length, get_or, take, drop, set, sym, refl, ap, ◌∙◌, subst, arith, take-append-drop}
 use Rattle.heap.specs.Sound.{Sound}
-use Rattle.heap.specs.Effects.{Outside, graph_of as heapGraph}
+use Rattle.heap.specs.Effects.{Outside}
 use Rattle.layout.specs.Shape.{Shape, Lawful}
 use Rattle.memory.specs.State.{State}
 use Rattle.memory.specs.Objects.{making}
-use Rattle.model.specs.Edits.{start, graph_of as modelGraph}
-use Rattle.model.specs.Tied.{Tied}
+use Rattle.model.specs.Edits.{start}
 use Rattle.std.proofs.lemmas.List.{append_assoc, append-nil, drop_all, drop-drop, drop_more, drop-set-lt, take_more_set, length-set, places}
 use Rattle.life.specs.Serving.{served, answers, after, Lived}
 use Rattle.life.specs.Faithful.{heard, heard_of, seen, seen_of, replies, told, living, outset, Faithful, TiedAfter}

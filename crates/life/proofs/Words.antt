@@ -1,5 +1,5 @@
 -- set and put write a word into the object that a root holds, and into the object of its number: the two go on agreeing.
-use Rattle.std.proofs.Common.{◌≡◌, ℕ, zero, suc, ◌+◌, ◌<◌, ◌≤◌, Bool, true, false, cond, ◌&&◌, eqb, ltb, ◌⊎◌, length, get_or, Some, None, Ok, Err, Result, sym, refl, ap, ◌∙◌, subst, inl, inr, arith}
+use Rattle.std.proofs.Common.{◌≡◌, ℕ, suc, ◌+◌, ◌<◌, ◌≤◌, Bool, true, cond, ◌&&◌, eqb, ltb, ◌⊎◌, length, get_or, Some, None, Ok, Err, Result, sym, refl, ap, ◌∙◌, subst, inl, inr, arith}
 use Rattle.image.specs.Content.{Content}
 use Rattle.heap.specs.Effects.{graph_of as heapGraph, Wrote, Sets, Puts}
 use Rattle.heap.specs.Sound.{Sound}
@@ -8,21 +8,21 @@ use Rattle.heap.proofs.Keeps.{Keeps}
 use Rattle.layout.specs.Shape.{Shape, Lawful, plain}
 use Rattle.memory.specs.State.{State, word_in, root_in, with_word as withHeapWord}
 use Rattle.memory.specs.Edits.{reference_to, set_reference, set_at, storing, put_word, put_at}
-use Rattle.model.specs.Edits.{held, object_at, numbered, with_word, of_object, set_reference as modelSet, put_word as modelPut, graph_of as modelGraph}
+use Rattle.model.specs.Edits.{held, object_at, numbered, with_word, set_reference as modelSet, put_word as modelPut, graph_of as modelGraph}
 use Rattle.model.specs.declared.edits.Refusal.{Refusal}
-use Rattle.model.specs.declared.edits.Refusal.TheVariants.{RootAbove63, RootNil, WrongPosition}
+use Rattle.model.specs.declared.edits.Refusal.TheVariants.{WrongPosition}
 use Rattle.model.specs.declared.edits.Reply.{Reply}
 use Rattle.model.specs.declared.edits.Reply.TheVariants.{Granted, Refused}
 use Rattle.model.specs.Tied.{Tied}
 use Rattle.model.proofs.Changes.{write, Matched}
-use Rattle.model.proofs.Contents.{Whole, word_equal, word-whole}
+use Rattle.model.proofs.Contents.{word_equal, word-whole}
 use Rattle.model.proofs.Holding.{root_matched}
 use Rattle.model.proofs.Views.{Looks, tied_looks, tied_equal, plain-inside}
 use Rattle.model.proofs.Writing.{tied_reference, tied_plain, not_both}
 use Rattle.std.proofs.lemmas.Bool.Decides.{nat_tests}
 use Rattle.std.proofs.lemmas.Bool.{cases_Bool, cases_eq, cond-true, cond-false, ltb-true}
 use Rattle.life.specs.Serving.{granted}
-use Rattle.life.proofs.Agree.{Agree, At, none, some, at_root, head_is, object_is, number_below}
+use Rattle.life.proofs.Agree.{Agree, At, none, some, at_root, head_is, number_below}
 use Rattle.life.proofs.Answering.{of_object_lem, of_nil}
 
 -- what is shown of an edit that alters: the replies are the same, and the two agree after it

@@ -1,5 +1,5 @@
 -- What a life promises of marking.
-use Rattle.std.specs.Prelude.{ℕ, List}
+use Rattle.std.specs.Prelude.{List}
 use Rattle.layout.specs.Shape.{Shape}
 use Rattle.memory.specs.State.{State}
 use Rattle.life.specs.declared.calls.Call.{Call}

@@ -11,7 +11,6 @@ use Rattle.memory.specs.declared.phase.Phase.TheVariants.{Marking, Marked}
 use Rattle.model.specs.Edits.{graph_of}
 use Rattle.model.specs.Graph.{Reach}
 use Rattle.life.specs.declared.calls.Call.{Call}
-use Rattle.life.specs.declared.calls.Call.TheVariants.{Edit as Asked, Begin, Mark, Refine}
 use Rattle.life.specs.declared.calls.Answer.{Answer}
 use Rattle.life.specs.declared.calls.Answer.TheVariants.{Edit as Replied, Begun, Scanned, Done, Refined, Clean, Refused as Denied}
 

@@ -1,9 +1,8 @@
-use Rattle.std.proofs.Common.{◌≡◌, ◌<◌, ◌≤◌, length, take, sym, ap, ◌∙◌, subst, arith}
+use Rattle.std.proofs.Common.{◌<◌, length, take, subst, arith}
 use Rattle.heap.specs.View.{state_of}
-use Rattle.memory.specs.Objects.{making}
 use Rattle.std.proofs.lemmas.List.{length-take}
 use Rattle.life.specs.Serving.{Lived}
-use Rattle.life.proofs.Turns.{Midway, midway_more, midway_all, call_at, promised}
+use Rattle.life.proofs.Turns.{midway_more, midway_all, call_at, promised}
 use Rattle.life.proofs.living.live.Goals as goal
 
 pub loop-k-preserved : goal.loop-k-preserved

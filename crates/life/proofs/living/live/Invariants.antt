@@ -1,6 +1,5 @@
 use Rattle.std.proofs.Common.{length, take}
 use Rattle.heap.specs.View.{state_of}
-use Rattle.memory.specs.Objects.{making}
 use Rattle.life.proofs.Turns.{Midway}
 use Rattle.life.proofs.living.live.Given as goal
 
