@@ -1,4 +1,6 @@
 //! Work on a bit set of 32,768 numbers, for a program in another language to call and to time.
+#![tactic(auto)]
+
 use bitset::BitSet;
 
 /// The state of the pseudo random sequence after `state`.
