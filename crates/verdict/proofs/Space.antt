@@ -1,7 +1,7 @@
 -- Three regions bound what is placed: words, the words left in the open region and the free regions
 -- but one never add up to more. And each cabling object has three words at least, so few fit a file.
-use Rattle.std.proofs.Common.{◌≡◌, ℕ, ◌+◌, ◌-◌, ◌*◌, ◌<◌, ◌≤◌, true, cond, ltb, leb, List, [], ◌∷◌, length, Some, None, Ok, Err, fold, Option, Result, sym, refl, ap, ◌∙◌, subst, arith}
-use Rattle.std.proofs.lemmas.Bool.{cond_both, leb-true, leb-false}
+use Rattle.std.proofs.Common.{◌≡◌, ℕ, ◌+◌, ◌-◌, ◌*◌, ◌≤◌, true, ltb, leb, List, [], ◌∷◌, length, Some, None, Ok, Err, fold, Option, Result, sym, ap, ◌∙◌, subst, arith}
+use Rattle.std.proofs.lemmas.Bool.{cond_both, leb-true}
 use Rattle.layout.specs.declared.cabling.Kind.{Kind}
 use Rattle.layout.specs.declared.cabling.Kind.TheVariants as kind
 use Rattle.layout.specs.Cabling.{cabling, kind_of, kind_size, legal_of, size_of}

@@ -1,5 +1,5 @@
 -- Whether the objects of an image find space in four regions, and the verdict on bytes.
-use Rattle.std.specs.Prelude.{◌≡◌, ℕ, ◌-◌, ◌*◌, ◌≤◌, Bool, true, false, cond, List, length, Ok, Err, fold, Result, nat_le, nat_lt}
+use Rattle.std.specs.Prelude.{◌≡◌, ℕ, ◌-◌, ◌*◌, ◌≤◌, cond, List, length, Ok, Err, fold, Result, nat_le, nat_lt}
 use Rattle.layout.specs.Cabling.{cabling}
 use Rattle.image.specs.declared.refusals.Refusal.{Refusal}
 use Rattle.image.specs.Content.{Content, headers}

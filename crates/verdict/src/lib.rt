@@ -1,5 +1,7 @@
 //! The verdict on a file of cabling topology: the strict check of its image, and whether its objects
 //! find space in a heap of four regions.
+#![tactic(auto)]
+
 mod placement;
 
 ghost use Rattle.std.specs.Prelude.{◌≡◌, Some};

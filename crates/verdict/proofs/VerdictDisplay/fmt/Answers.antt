@@ -1,4 +1,4 @@
-use Rattle.std.proofs.Common.{◌≡◌, codes, sym, refl, subst, rules}
+use Rattle.std.proofs.Common.{◌≡◌, codes, refl, rules}
 use Rattle.std.specs.Fmt.{digits}
 use Rattle.verdict.specs.Line.{refusal_line}
 use Rattle.verdict.proofs.VerdictDisplay.fmt.Goals as goal
