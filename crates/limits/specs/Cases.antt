@@ -1,5 +1,5 @@
 -- The cases at the limits that the rule book states.
-use Rattle.std.specs.Prelude.{◌≡◌, ℕ, true, false, List, [], ◌∷◌, Some, None, Ok, Err, codes, Option, Result}
+use Rattle.std.specs.Prelude.{◌≡◌, ℕ, true, false, [], ◌∷◌, Some, None, Ok, Err, codes, Option, Result}
 use Rattle.layout.specs.declared.cabling.Kind.TheVariants.{Room}
 use Rattle.layout.specs.Cabling.{cabling, kind_of}
 use Rattle.layout.specs.Counted.{counted}
