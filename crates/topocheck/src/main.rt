@@ -1,4 +1,6 @@
 //! Checks a file of cabling topology on standard input and prints one line.
+#![tactic(auto)]
+
 use std::io;
 use std::io::Read;
 use verdict::LONGEST;
