@@ -1,4 +1,6 @@
 //! The strict check of a cabling image for hosts in C and Rust.
+#![tactic(auto)]
+
 ghost use Rattle.host.specs.Answer.{host_answer};
 ghost use Rattle.std.specs.Prelude.{◌≡◌};
 
