@@ -1,5 +1,5 @@
 -- The texts of calls, of answers, and of the lines that have both.
-use Rattle.std.specs.Prelude.{ℕ, Bool, true, false, cond, List, ◌++◌, codes, decimal}
+use Rattle.std.specs.Prelude.{ℕ, cond, List, ◌++◌, codes, decimal}
 use Rattle.model.specs.Refusals.{number_of}
 use Rattle.model.specs.declared.edits.Edit.{Edit}
 use Rattle.model.specs.declared.edits.Edit.TheVariants.{New, Set, Get, Put, Peek, Copy, Clear, Same, Head}

@@ -3,7 +3,6 @@ use Rattle.std.proofs.Common.{◌≡◌, ℕ, suc, ◌+◌, ◌-◌, ◌*◌, �
 use lib.Seq.{take-nil}
 use Rattle.layout.specs.Shape.{Shape}
 use Rattle.life.specs.Serving.{after, answers, served}
-use Rattle.life.specs.declared.calls.Answer.{Answer}
 use Rattle.life.specs.declared.calls.Call.{Call}
 use Rattle.memory.specs.State.{State}
 use Rattle.std.proofs.lemmas.List.{append_assoc, append-nil, drop-drop, drop_more, drop-set-lt, take_more_set}

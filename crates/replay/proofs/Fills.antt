@@ -1,5 +1,5 @@
 -- The loop over the regions: one fill more.
-use Rattle.std.proofs.Common.{◌≡◌, ℕ, zero, suc, ◌+◌, List, [], ◌∷◌, set, sym, refl, ap, ◌∙◌, arith}
+use Rattle.std.proofs.Common.{◌≡◌, ℕ, zero, suc, ◌+◌, List, [], ◌∷◌, set, refl, ap, ◌∙◌, arith}
 use Rattle.tables.specs.Regions.{region_at}
 use Rattle.tables.specs.declared.region.Region.{Region}
 use Rattle.replay.specs.Running.{fills_from}

@@ -1,9 +1,7 @@
 -- Calls and answers as words.
-use Rattle.std.specs.Prelude.{ℕ, Bool, true, false, cond, Some, None, Option, ◌==◌}
+use Rattle.std.specs.Prelude.{ℕ, cond, Some, None, Option, ◌==◌}
 use Rattle.model.specs.Refusals.{number_of}
-use Rattle.model.specs.declared.edits.Edit.{Edit}
 use Rattle.model.specs.declared.edits.Edit.TheVariants.{New, Set, Get, Put, Peek, Copy, Clear, Same, Head}
-use Rattle.model.specs.declared.edits.Reply.{Reply}
 use Rattle.model.specs.declared.edits.Reply.TheVariants.{Granted, Word, Same as IsSame, Refused}
 use Rattle.life.specs.declared.calls.Call.{Call}
 use Rattle.life.specs.declared.calls.Call.TheVariants.{Edit as Asked, Begin, Mark, Refine}
