@@ -80,6 +80,7 @@ NAMES = """
     wordRead wordWritten words-four words-push words-within work-list writeAt written-edits written-long
     written-outside written-sound written-wrote wrote-looks zero-at zeros-inside zeros-length zeros-more
     zeros-none zeros-outside
+    numberRefusalOf modelEdited heapGraph withHeapRoot modelGraph modelGet withHeapWord modelSet modelPut makingRegions
 """.split()
 
 LEMMAS = """

@@ -4,7 +4,7 @@ use Rattle.layout.specs.Shape.{Shape}
 use Rattle.leb128.specs.declared.Fault.{Fault as NumberFault}
 use Rattle.leb128.specs.declared.Fault.TheVariants.{EndsEarly, NotShortest, TooWide}
 use Rattle.leb128.specs.declared.Number.{Number}
-use Rattle.leb128.specs.Number.{read_at, refusal_of as numberRefusalOf}
+use Rattle.leb128.specs.Number.{read_at, refusal_of as number_refusal_of}
 use Rattle.image.specs.declared.refusals.Fault.{Fault}
 use Rattle.image.specs.declared.refusals.Fault.TheVariants as fault
 use Rattle.image.specs.declared.refusals.Refusal.{Refusal}
@@ -15,7 +15,7 @@ use Rattle.image.specs.Steps.{bind, collect}
 
 -- the number by which each fault is reported
 abbrev pub refusal_of : Fault → ℕ
-refusal_of (fault.Number f) = numberRefusalOf f
+refusal_of (fault.Number f) = number_refusal_of f
 refusal_of fault.Start = 13
 refusal_of fault.Sign = 14
 refusal_of fault.Roots = 15

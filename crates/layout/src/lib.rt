@@ -24,11 +24,11 @@ pub trait Layout {
     /// A header that is legal.
     const SAMPLE_HEADER: u32;
 
-    /// `IMAGE_SIGN` as a call, since a contract cannot name a constant of a trait.
+    /// `IMAGE_SIGN` as a call, which the contract ties to `shape`.
     fn sign() -> u32
         ensures { result ≡ shape.sign };
 
-    /// `SAMPLE_HEADER` as a call, for the same reason.
+    /// `SAMPLE_HEADER` as a call, in the same way.
     fn sample() -> u32
         ensures { result ≡ shape.sample };
 

@@ -2,13 +2,13 @@
 -- are tied. Then each root is nil in both, or holds an object and its number.
 use Rattle.std.proofs.Common.{◌≡◌, ℕ, suc, ◌-◌, ◌<◌, true, length, Some, None, Option, sym, refl, ap, ◌∙◌, arith}
 use Rattle.image.specs.Content.{Content}
-use Rattle.heap.specs.Effects.{graph_of as heapGraph}
+use Rattle.heap.specs.Effects.{graph_of as heap_graph}
 use Rattle.heap.specs.Sound.{Sound}
 use Rattle.heap.proofs.Geometry.{place_below}
 use Rattle.layout.specs.Shape.{Shape}
 use Rattle.memory.specs.State.{State, word_in, root_in}
 use Rattle.memory.specs.Edits.{reference_to}
-use Rattle.model.specs.Edits.{held, object_at, numbered, graph_of as modelGraph}
+use Rattle.model.specs.Edits.{held, object_at, numbered, graph_of as model_graph}
 use Rattle.model.specs.Graph.{Reach, by_root}
 use Rattle.model.specs.Tied.{Tied}
 use Rattle.model.proofs.Contents.{Whole}
@@ -17,7 +17,7 @@ use Rattle.std.proofs.lemmas.Bool.{ltb-true}
 pub record Agree (S : Shape) (s : State) (m : Content) (ν : ℕ → ℕ) : Type 0 where
   pub sound : Sound S s
   pub whole : Whole S m
-  pub tied : Tied S (heapGraph s) (modelGraph m) ν
+  pub tied : Tied S (heap_graph s) (model_graph m) ν
 
 -- what root i holds in both
 pub data At (s : State) (m : Content) (ν : ℕ → ℕ) (i : ℕ) : Type 0 where
@@ -51,5 +51,5 @@ module _ {S : Shape} {s : State} {m : Content} {ν : ℕ → ℕ} (a : Agree S s
   number_below p st = ltb-true (ν p) _ (a.tied.numbered p st)
 
   -- and it is reached
-  pub reached : (i p : ℕ) → held m i ≡ suc (ν p) → Reach S (modelGraph m) (ν p)
+  pub reached : (i p : ℕ) → held m i ≡ suc (ν p) → Reach S (model_graph m) (ν p)
   reached i p e = by_root i e

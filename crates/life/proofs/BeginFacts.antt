@@ -2,12 +2,12 @@
 -- pending, and nothing is scanned.
 use Rattle.std.proofs.Common.{◌≡◌, ℕ, suc, ◌≤◌, true, [], length, sym, refl, ap, ◌∙◌, subst, inl, inr, arith}
 use Rattle.image.specs.Content.{Content}
-use Rattle.heap.specs.Effects.{graph_of as heapGraph}
+use Rattle.heap.specs.Effects.{graph_of as heap_graph}
 use Rattle.heap.specs.Steps.{Begun}
 use Rattle.layout.specs.Shape.{Shape}
 use Rattle.memory.specs.State.{State}
 use Rattle.memory.specs.Edits.{reference_to}
-use Rattle.model.specs.Edits.{held, object_at, word_at, graph_of as modelGraph}
+use Rattle.model.specs.Edits.{held, object_at, word_at, graph_of as model_graph}
 use Rattle.model.specs.Graph.{by_root, by_field}
 use Rattle.model.proofs.Changes.{Matched, nil, object}
 use Rattle.model.proofs.Holding.{field_matched}
@@ -40,7 +40,7 @@ module _ {S : Shape} {s t : State} {m : Content} {ν : ℕ → ℕ} (a : Agree S
           subst (λ k. t.marks.marked k ≡ true) (a.tied.distinct q p sq st' n) (x.held k q d)
 
   -- a reference of a reached object names in the heap what it names in the other
-  named-same : (q : ℕ) → t.starts q ≡ true → {v u : ℕ} → Matched S (heapGraph t) (modelGraph m) ν v u → u ≡ suc (ν q) → v ≡ suc q
+  named-same : (q : ℕ) → t.starts q ≡ true → {v u : ℕ} → Matched S (heap_graph t) (model_graph m) ν v u → u ≡ suc (ν q) → v ≡ suc q
   named-same q tq nil e = absurd (omega arith)
   named-same q tq (object o n r) e = let z : ν o ≡ ν q = omega arith in ap suc (b.tied.distinct o q n tq z)
 

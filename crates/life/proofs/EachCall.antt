@@ -30,7 +30,7 @@ use Rattle.memory.specs.Edits.{reference_to}
 use Rattle.memory.specs.State.{State}
 use Rattle.memory.specs.declared.phase.Phase.{Phase}
 use Rattle.memory.specs.declared.phase.Phase.TheVariants.{Idle, Marking, Marked}
-use Rattle.model.specs.Edits.{edited as modelEdited}
+use Rattle.model.specs.Edits.{edited as model_edited}
 use Rattle.model.specs.declared.edits.Edit.{Edit}
 use Rattle.model.specs.declared.edits.Edit.TheVariants.{New, Set, Get, Put, Peek, Copy, Clear, Same, Head}
 use Rattle.model.specs.declared.edits.Refusal.{Refusal}
@@ -61,7 +61,7 @@ use Rattle.life.proofs.Words.{set_alike, put_alike}
 use Rattle.life.proofs.Runs.{Sure, OneCall}
 
 module _ {S : Shape} (law : Lawful S) where
-  pub edit_outcome : (s : State) (m : Content) (ν : ℕ → ℕ) → Agree S s m ν → (e : Edit) → Outcome S m ν e (edited S s e) (modelEdited S m e)
+  pub edit_outcome : (s : State) (m : Content) (ν : ℕ → ℕ) → Agree S s m ν → (e : Edit) → Outcome S m ν e (edited S s e) (model_edited S m e)
   edit_outcome s m ν a (New root h) = new_outcome law a root h (new_keeps S law s root h a.sound)
   edit_outcome s m ν a (Set i position k) = let x = set_alike law a i position k (set_keeps S law s i position k a.sound) in heard x.0 x.1
   edit_outcome s m ν a (Get i position k) = let x = get_alike law a i position k (get_keeps S s i position k a.sound) in heard x.0 x.1
@@ -84,14 +84,14 @@ module _ {S : Shape} (law : Lawful S) where
   edit_outside s h (Head i) = same_outside s
 
   -- an edit that is answered alike does not lack space
-  hears_it : (s : State) (m : Content) (ν : ℕ → ℕ) (e : Edit) {t : State} {m' : Content} {μ : ℕ → ℕ} → (edited S s e).0 ≡ (modelEdited S m e).0
+  hears_it : (s : State) (m : Content) (ν : ℕ → ℕ) (e : Edit) {t : State} {m' : Content} {μ : ℕ → ℕ} → (edited S s e).0 ≡ (model_edited S m e).0
       → Edits S s t m m' ν μ → (lacking (edited S s e).0 ≡ true → Edits S s t m m ν ν) × (lacking (edited S s e).0 ≡ false → Edits S s t m m' ν μ)
   hears_it s m ν e d x = (λ l. absurd (false≢true (sym (ap lacking d ∙ never_lacks S m e) ∙ l)), λ l. x)
 
   -- what an edit does that a marking must know of, whether the other heap hears it or not
   edit_edits : (s : State) (m : Content) (ν : ℕ → ℕ) → Agree S s m ν → (e : Edit)
       → (lacking (edited S s e).0 ≡ true → Edits S s (edited S s e).1 m m ν ν)
-      × (lacking (edited S s e).0 ≡ false → Edits S s (edited S s e).1 m (modelEdited S m e).1 ν (number_on ν (length m.objects) e (edited S s e)))
+      × (lacking (edited S s e).0 ≡ false → Edits S s (edited S s e).1 m (model_edited S m e).1 ν (number_on ν (length m.objects) e (edited S s e)))
   edit_edits s m ν a (New root h) = new_edits law a root h (new_keeps S law s root h a.sound)
   edit_edits s m ν a (Set i position k) =
       let keep = set_keeps S law s i position k a.sound in
@@ -132,13 +132,13 @@ module _ {S : Shape} (law : Lawful S) where
       hearing_it : Both
       hearing_it = record {
         heap = p.1;
-        model = (modelEdited S b.model e).1;
+        model = (model_edited S b.model e).1;
         number = number_on b.number (length b.model.objects) e p;
         snapshot = b.snapshot;
         scans = b.scans;
       }
 
-      go : Outcome S b.model b.number e (edited S b.heap e) (modelEdited S b.model e) → EditCall b e p (lacking p.0) (cond (lacking p.0) unheard hearing_it)
+      go : Outcome S b.model b.number e (edited S b.heap e) (model_edited S b.model e) → EditCall b e p (lacking p.0) (cond (lacking p.0) unheard hearing_it)
       go (lacked l x) = subst (λ t. EditCall b e p t (cond t unheard hearing_it)) (sym l) (record {
         sure = record { agree = x; facts = facts_edit a.agree x ((edit_edits b.heap b.model b.number a.agree e).0 l) b.snapshot b.scans a.facts };
         heap = refl;

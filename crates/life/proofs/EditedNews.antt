@@ -2,13 +2,13 @@
 -- and not pending. Where the heap lacks space it alters nothing, and the other does not hear of it.
 use Rattle.std.proofs.Common.{◌≡◌, ℕ, suc, ◌+◌, ◌-◌, ◌<◌, ◌≤◌, true, false, cond, eqb, ltb, ◌⊎◌, length, get_or, replicate, Some, None, Option, Result, sym, ◌∙◌, subst, inl, inr, arith}
 use Rattle.image.specs.Content.{Content}
-use Rattle.heap.specs.Effects.{graph_of as heapGraph, Made, Births, Makes}
+use Rattle.heap.specs.Effects.{graph_of as heap_graph, Made, Births, Makes}
 use Rattle.heap.proofs.Keeps.{Keeps}
 use Rattle.layout.specs.Shape.{Shape, Lawful}
-use Rattle.memory.specs.State.{State, word_in, root_in, with_regions, with_root as withHeapRoot}
+use Rattle.memory.specs.State.{State, word_in, root_in, with_regions, with_root as with_heap_root}
 use Rattle.memory.specs.Edits.{reference_to}
 use Rattle.memory.specs.Objects.{new_object, new_at, born, laid}
-use Rattle.model.specs.Edits.{held, object_at, word_at, with_object, with_root, new, graph_of as modelGraph}
+use Rattle.model.specs.Edits.{held, object_at, word_at, with_object, with_root, new, graph_of as model_graph}
 use Rattle.model.specs.declared.edits.Edit.TheVariants.{New}
 use Rattle.model.specs.declared.edits.Refusal.{Refusal}
 use Rattle.model.specs.declared.edits.Reply.{Reply}
@@ -61,10 +61,10 @@ module _ {S : Shape} (law : Lawful S) {s : State} {m : Content} {ν : ℕ → �
     fields = λ o i q f e. fields o i q (subst (λ k. S.reference k i ≡ true) (after.head o) f) e;
   }
     where
-      after : Equal (hold (add (modelGraph m) n h) root (suc n)) (modelGraph (with_root (with_object S m h) root (suc n)))
+      after : Equal (hold (add (model_graph m) n h) root (suc n)) (model_graph (with_root (with_object S m h) root (suc n)))
       after = new_equal a.whole h root l
 
-      looks : Looks S (hold (add (heapGraph s) p h) root (suc p)) (heapGraph t)
+      looks : Looks S (hold (add (heap_graph s) p h) root (suc p)) (heap_graph t)
       looks = made_looks law a.sound l legal x
 
       longer : length (with_object S m h).objects ≡ n + 1
@@ -146,4 +146,4 @@ module _ {S : Shape} (law : Lawful S) {s : State} {m : Content} {ν : ℕ → �
           through E D (λ o. subst (λ t. Edits S s t m m ν ν) (sym x.effect) (same_edits S s m ν), λ o. absurd (false≢true (sym o)))
       at l f (Some p, r) E D =
           let x = subst (Keeps S s (λ t r. Makes S s t root h r)) E keep in
-          through E D (λ o. absurd (false≢true o), λ o. made_edits (withHeapRoot (born s.phase (laid (with_regions s r) p h (S.size h)) p (S.size h)) root (Some p)) l f x.effect.0 x.effect.1 x.effect.2)
+          through E D (λ o. absurd (false≢true o), λ o. made_edits (with_heap_root (born s.phase (laid (with_regions s r) p h (S.size h)) p (S.size h)) root (Some p)) l f x.effect.0 x.effect.1 x.effect.2)

@@ -5,9 +5,9 @@ use Rattle.image.specs.Content.{Content}
 use Rattle.heap.specs.Effects.{Held, SameMarks, Gets, Copies, Clears}
 use Rattle.heap.proofs.Keeps.{Keeps}
 use Rattle.layout.specs.Shape.{Shape}
-use Rattle.memory.specs.State.{State, word_in, root_in, with_root as withHeapRoot}
+use Rattle.memory.specs.State.{State, word_in, root_in, with_root as with_heap_root}
 use Rattle.memory.specs.Edits.{named_by, get_reference, get_at, copy_root, clear_root}
-use Rattle.model.specs.Edits.{held, numbered, word_at, with_root, get_reference as modelGet, copy, clear}
+use Rattle.model.specs.Edits.{held, numbered, word_at, with_root, get_reference as model_get, copy, clear}
 use Rattle.model.specs.declared.edits.Refusal.TheVariants.{WrongPosition}
 use Rattle.model.specs.declared.edits.Reply.{Reply}
 use Rattle.model.specs.declared.edits.Reply.TheVariants.{Granted, Refused}
@@ -50,9 +50,9 @@ module _ {S : Shape} {s : State} {m : Content} {ν : ℕ → ℕ} (a : Agree S s
     | inl e ↦ (let E = cond-true _ _ _ e in edits_as E (cond-true _ _ _ e) (go e (subst (Keeps S s (λ t r. Copies s t i k r)) E keep)))
   ]
     where
-      go : (ltb i 64 && ltb k 64) ≡ true → Keeps S s (λ t r. Copies s t i k r) (Ok tt, withHeapRoot s k (root_in s i)) → Edits S s (withHeapRoot s k (root_in s i)) m (with_root m k (held m i)) ν ν
+      go : (ltb i 64 && ltb k 64) ≡ true → Keeps S s (λ t r. Copies s t i k r) (Ok tt, with_heap_root s k (root_in s i)) → Edits S s (with_heap_root s k (root_in s i)) m (with_root m k (held m i)) ν ν
       go e x =
-          hold_edits (withHeapRoot s k (root_in s i)) k (held m i) (root_in s i) (ltb-true k 64 (and_parts (ltb i 64) (ltb k 64) e).1) x.effect.0 x.effect.1
+          hold_edits (with_heap_root s k (root_in s i)) k (held m i) (root_in s i) (ltb-true k 64 (and_parts (ltb i 64) (ltb k 64) e).1) x.effect.0 x.effect.1
           (λ n z. inl (i, z))
 
   pub clear_edits : (i : ℕ) → Keeps S s (λ t r. Clears s t i r) (clear_root s i) → Edits S s (clear_root s i).1 m (clear m i).1 ν ν
@@ -61,10 +61,10 @@ module _ {S : Shape} {s : State} {m : Content} {ν : ℕ → ℕ} (a : Agree S s
     | inl e ↦ (let E = cond-true _ _ _ e in edits_as E (cond-true _ _ _ e) (go e (subst (Keeps S s (λ t r. Clears s t i r)) E keep)))
   ]
     where
-      go : ltb i 64 ≡ true → Keeps S s (λ t r. Clears s t i r) (Ok tt, withHeapRoot s i None) → Edits S s (withHeapRoot s i None) m (with_root m i 0) ν ν
-      go e x = hold_edits (withHeapRoot s i None) i 0 None (ltb-true i 64 e) x.effect.0 x.effect.1 (λ n z. absurd (omega arith))
+      go : ltb i 64 ≡ true → Keeps S s (λ t r. Clears s t i r) (Ok tt, with_heap_root s i None) → Edits S s (with_heap_root s i None) m (with_root m i 0) ν ν
+      go e x = hold_edits (with_heap_root s i None) i 0 None (ltb-true i 64 e) x.effect.0 x.effect.1 (λ n z. absurd (omega arith))
 
-  pub get_edits : (i position k : ℕ) → Keeps S s (λ t r. Gets S s t i position k r) (get_reference S s i position k) → Edits S s (get_reference S s i position k).1 m (modelGet S m i position k).1 ν ν
+  pub get_edits : (i position k : ℕ) → Keeps S s (λ t r. Gets S s t i position k r) (get_reference S s i position k) → Edits S s (get_reference S s i position k).1 m (model_get S m i position k).1 ν ν
   get_edits i position k keep = elim (cases_Bool (ltb i 64 && ltb k 64)) [
     | inr e ↦ edits_as (cond-false _ _ _ e) (cond-false _ _ _ e) (same_edits S s m ν)
     | inl e ↦ at e (at_root a i)
@@ -73,25 +73,25 @@ module _ {S : Shape} {s : State} {m : Content} {ν : ℕ → ℕ} (a : Agree S s
       done : Reply × Content
       done = cond (S.reference (numbered m (held m i)).header position) (Granted, with_root m k (word_at (numbered m (held m i)) position)) (Refused WrongPosition, m)
 
-      at : (ltb i 64 && ltb k 64) ≡ true → At s m ν i → Edits S s (get_reference S s i position k).1 m (modelGet S m i position k).1 ν ν
+      at : (ltb i 64 && ltb k 64) ≡ true → At s m ν i → Edits S s (get_reference S s i position k).1 m (model_get S m i position k).1 ν ν
       at e (none n z) = edits_as (cond-true _ _ _ e ∙ ap (λ o. get_at S s o position k) n) (cond-true _ _ _ e ∙ of_nil m i done z) (same_edits S s m ν)
       at e (some p n st z) = elim (cases_Bool (S.reference (word_in s p) position)) [
         | inr f ↦ edits_as (heap ∙ cond-false _ _ _ f) (model ∙ cond-false _ _ _ (same f)) (same_edits S s m ν)
         | inl f ↦ (let E = heap ∙ cond-true _ _ _ f in edits_as E (model ∙ cond-true _ _ _ (same f)) (go f (subst (Keeps S s (λ t r. Gets S s t i position k r)) E keep)))
       ]
         where
-          heap : get_reference S s i position k ≡ cond (S.reference (word_in s p) position) (Ok tt, withHeapRoot s k (named_by (word_in s (p + position)))) (Err WrongPosition, s)
+          heap : get_reference S s i position k ≡ cond (S.reference (word_in s p) position) (Ok tt, with_heap_root s k (named_by (word_in s (p + position)))) (Err WrongPosition, s)
           heap = cond-true _ _ _ e ∙ ap (λ o. get_at S s o position k) n
 
-          model : modelGet S m i position k ≡ done
+          model : model_get S m i position k ≡ done
           model = cond-true _ _ _ e ∙ of_object_lem m i (ν p) done z
 
           same : {b : Bool} → S.reference (word_in s p) position ≡ b → S.reference (numbered m (held m i)).header position ≡ b
           same f = ap (λ h. S.reference h position) (sym (head_is a i p st z)) ∙ f
 
-          go : S.reference (word_in s p) position ≡ true → Keeps S s (λ t r. Gets S s t i position k r) (Ok tt, withHeapRoot s k (named_by (word_in s (p + position)))) → Edits S s (withHeapRoot s k (named_by (word_in s (p + position)))) m (with_root m k (word_at (numbered m (held m i)) position)) ν ν
+          go : S.reference (word_in s p) position ≡ true → Keeps S s (λ t r. Gets S s t i position k r) (Ok tt, with_heap_root s k (named_by (word_in s (p + position)))) → Edits S s (with_heap_root s k (named_by (word_in s (p + position)))) m (with_root m k (word_at (numbered m (held m i)) position)) ν ν
           go f x =
-              let t = withHeapRoot s k (named_by (word_in s (p + position))) in
+              let t = with_heap_root s k (named_by (word_in s (p + position))) in
               let o : Some x.effect.0 ≡ Some p = sym x.effect.1 ∙ n in
               let c : x.effect.0 ≡ p = cc in
               let y : Held s t k (named_by (word_in s (p + position))) = subst (λ q. Held s t k (named_by (word_in s (q + position)))) c x.effect.3 in

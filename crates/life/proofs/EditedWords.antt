@@ -6,10 +6,10 @@ use Rattle.heap.specs.Effects.{Wrote, Guards, SameMarks, Sets, Puts}
 use Rattle.heap.specs.Sound.{Sound}
 use Rattle.heap.proofs.Keeps.{Keeps}
 use Rattle.layout.specs.Shape.{Shape, Lawful, plain}
-use Rattle.memory.specs.State.{State, word_in, root_in, with_word as withHeapWord}
+use Rattle.memory.specs.State.{State, word_in, root_in, with_word as with_heap_word}
 use Rattle.memory.specs.Edits.{reference_to, set_reference, set_at, storing, put_word, put_at}
 use Rattle.memory.specs.declared.phase.Phase.TheVariants.{Marking}
-use Rattle.model.specs.Edits.{held, object_at, numbered, word_at, with_word, set_reference as modelSet, put_word as modelPut, graph_of as modelGraph}
+use Rattle.model.specs.Edits.{held, object_at, numbered, word_at, with_word, set_reference as model_set, put_word as model_put, graph_of as model_graph}
 use Rattle.model.specs.declared.edits.Refusal.TheVariants.{WrongPosition}
 use Rattle.model.specs.declared.edits.Reply.{Reply}
 use Rattle.model.specs.declared.edits.Reply.TheVariants.{Granted, Refused}
@@ -62,7 +62,7 @@ module _ {S : Shape} (law : Lawful S) {s : State} {m : Content} {ν : ℕ → �
       fields = λ o j n f e. names o j n (subst (λ h. S.reference h j ≡ true) (after.head o) f) e;
     }
       where
-        after : Equal (write (modelGraph m) (ν p) i u) (modelGraph (with_word m (suc (ν p)) i u))
+        after : Equal (write (model_graph m) (ν p) i u) (model_graph (with_word m (suc (ν p)) i u))
         after = word_equal a.whole (ν p) i u (number_below a p st) l (subst (λ h. i < S.size h) (a.tied.heads p st) k)
 
         stands : (b j q : ℕ) → s.starts b ≡ true → S.reference (word_in s b) j ≡ true → word_in s (b + j) ≡ suc q → (word_in t (b + j) ≡ suc q) ⊎ (s.phase ≡ Marking → t.marks.marked q ≡ true)
@@ -96,7 +96,7 @@ module _ {S : Shape} (law : Lawful S) {s : State} {m : Content} {ν : ℕ → �
             off : (o ≡ ν p → ⊥) ⊎ (j ≡ i → ⊥) → cond (eqb o (ν p) && eqb j i) u (word_at (object_at m.objects o) j) ≡ word_at (object_at m.objects o) j
             off d = grind (arith, nat_tests)
 
-  pub set_edits : (i position k : ℕ) → Keeps S s (λ t r. Sets S s t i position k r) (set_reference S s i position k) → Edits S s (set_reference S s i position k).1 m (modelSet S m i position k).1 ν ν
+  pub set_edits : (i position k : ℕ) → Keeps S s (λ t r. Sets S s t i position k r) (set_reference S s i position k) → Edits S s (set_reference S s i position k).1 m (model_set S m i position k).1 ν ν
   set_edits i position k keep = elim (cases_Bool (ltb i 64 && ltb k 64)) [
     | inr e ↦ edits_as (cond-false _ _ _ e) (cond-false _ _ _ e) (same_edits S s m ν)
     | inl e ↦ at e (at_root a i)
@@ -105,7 +105,7 @@ module _ {S : Shape} (law : Lawful S) {s : State} {m : Content} {ν : ℕ → �
       done : Reply × Content
       done = cond (S.reference (numbered m (held m i)).header position) (Granted, with_word m (held m i) position (held m k)) (Refused WrongPosition, m)
 
-      at : (ltb i 64 && ltb k 64) ≡ true → At s m ν i → Edits S s (set_reference S s i position k).1 m (modelSet S m i position k).1 ν ν
+      at : (ltb i 64 && ltb k 64) ≡ true → At s m ν i → Edits S s (set_reference S s i position k).1 m (model_set S m i position k).1 ν ν
       at e (none n z) = edits_as (cond-true _ _ _ e ∙ ap (λ o. set_at S s o position (reference_to (root_in s k))) n) (cond-true _ _ _ e ∙ of_nil m i done z) (same_edits S s m ν)
       at e (some p n st z) = elim (cases_Bool (S.reference (word_in s p) position)) [
         | inr f ↦ edits_as (heap ∙ cond-false _ _ _ f) (model ∙ cond-false _ _ _ (same f)) (same_edits S s m ν)
@@ -115,7 +115,7 @@ module _ {S : Shape} (law : Lawful S) {s : State} {m : Content} {ν : ℕ → �
           heap : set_reference S s i position k ≡ cond (S.reference (word_in s p) position) (Ok tt, storing s p position (reference_to (root_in s k))) (Err WrongPosition, s)
           heap = cond-true _ _ _ e ∙ ap (λ o. set_at S s o position (reference_to (root_in s k))) n
 
-          model : modelSet S m i position k ≡ done
+          model : model_set S m i position k ≡ done
           model = cond-true _ _ _ e ∙ of_object_lem m i (ν p) done z
 
           same : {b : Bool} → S.reference (word_in s p) position ≡ b → S.reference (numbered m (held m i)).header position ≡ b
@@ -142,7 +142,7 @@ module _ {S : Shape} (law : Lawful S) {s : State} {m : Content} {ν : ℕ → �
               })
               (λ d. refl) (λ d q v. (k, v)))
 
-  pub put_edits : (i position word : ℕ) → Keeps S s (λ t r. Puts S s t i position word r) (put_word S s i position word) → Edits S s (put_word S s i position word).1 m (modelPut S m i position word).1 ν ν
+  pub put_edits : (i position word : ℕ) → Keeps S s (λ t r. Puts S s t i position word r) (put_word S s i position word) → Edits S s (put_word S s i position word).1 m (model_put S m i position word).1 ν ν
   put_edits i position word keep = elim (cases_Bool (ltb i 64)) [
     | inr e ↦ edits_as (cond-false _ _ _ e) (cond-false _ _ _ e) (same_edits S s m ν)
     | inl e ↦ at e (at_root a i)
@@ -151,25 +151,25 @@ module _ {S : Shape} (law : Lawful S) {s : State} {m : Content} {ν : ℕ → �
       done : Reply × Content
       done = cond (plain S (numbered m (held m i)).header position) (Granted, with_word m (held m i) position word) (Refused WrongPosition, m)
 
-      at : ltb i 64 ≡ true → At s m ν i → Edits S s (put_word S s i position word).1 m (modelPut S m i position word).1 ν ν
+      at : ltb i 64 ≡ true → At s m ν i → Edits S s (put_word S s i position word).1 m (model_put S m i position word).1 ν ν
       at e (none n z) = edits_as (cond-true _ _ _ e ∙ ap (λ o. put_at S s o position word) n) (cond-true _ _ _ e ∙ of_nil m i done z) (same_edits S s m ν)
       at e (some p n st z) = elim (cases_Bool (plain S (word_in s p) position)) [
         | inr f ↦ edits_as (heap ∙ cond-false _ _ _ f) (model ∙ cond-false _ _ _ (same f)) (same_edits S s m ν)
         | inl f ↦ (let E = heap ∙ cond-true _ _ _ f in edits_as E (model ∙ cond-true _ _ _ (same f)) (go f (subst (Keeps S s (λ t r. Puts S s t i position word r)) E keep)))
       ]
         where
-          heap : put_word S s i position word ≡ cond (plain S (word_in s p) position) (Ok tt, withHeapWord s (p + position) word) (Err WrongPosition, s)
+          heap : put_word S s i position word ≡ cond (plain S (word_in s p) position) (Ok tt, with_heap_word s (p + position) word) (Err WrongPosition, s)
           heap = cond-true _ _ _ e ∙ ap (λ o. put_at S s o position word) n
 
-          model : modelPut S m i position word ≡ done
+          model : model_put S m i position word ≡ done
           model = cond-true _ _ _ e ∙ of_object_lem m i (ν p) done z
 
           same : {b : Bool} → plain S (word_in s p) position ≡ b → plain S (numbered m (held m i)).header position ≡ b
           same f = ap (λ h. plain S h position) (sym (head_is a i p st z)) ∙ f
 
-          go : plain S (word_in s p) position ≡ true → Keeps S s (λ t r. Puts S s t i position word r) (Ok tt, withHeapWord s (p + position) word) → Edits S s (withHeapWord s (p + position) word) m (with_word m (held m i) position word) ν ν
+          go : plain S (word_in s p) position ≡ true → Keeps S s (λ t r. Puts S s t i position word r) (Ok tt, with_heap_word s (p + position) word) → Edits S s (with_heap_word s (p + position) word) m (with_word m (held m i) position word) ν ν
           go f x =
-              let t = withHeapWord s (p + position) word in
+              let t = with_heap_word s (p + position) word in
               let o : Some x.effect.0 ≡ Some p = sym x.effect.1 ∙ n in
               let c : x.effect.0 ≡ p = cc in
               let b = plain-inside S (word_in s p) position f in

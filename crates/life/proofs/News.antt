@@ -3,15 +3,15 @@
 use Rattle.std.proofs.Common.{◌≡◌, ℕ, suc, ◌+◌, ◌<◌, Bool, true, false, cond, eqb, ltb, ◌⊎◌, length, get_or, Some, None, Option, Result, sym, refl, ap, ◌∙◌, subst, inl, inr, arith}
 use mathlib.Core.Path.{fun_ext}
 use Rattle.image.specs.Content.{Content}
-use Rattle.heap.specs.Effects.{graph_of as heapGraph, Made, Makes}
+use Rattle.heap.specs.Effects.{graph_of as heap_graph, Made, Makes}
 use Rattle.heap.specs.Sound.{Sound}
 use Rattle.heap.proofs.Geometry.{some_word}
 use Rattle.heap.proofs.Keeps.{Keeps}
 use Rattle.layout.specs.Shape.{Shape, Lawful}
-use Rattle.memory.specs.State.{State, word_in, root_in, with_regions, with_root as withHeapRoot}
+use Rattle.memory.specs.State.{State, word_in, root_in, with_regions, with_root as with_heap_root}
 use Rattle.memory.specs.Edits.{reference_to}
 use Rattle.memory.specs.Objects.{new_object, new_at, born, laid}
-use Rattle.model.specs.Edits.{with_object, with_root, new, graph_of as modelGraph}
+use Rattle.model.specs.Edits.{with_object, with_root, new, graph_of as model_graph}
 use Rattle.model.specs.Tied.{Tied}
 use Rattle.model.specs.declared.edits.Edit.{Edit}
 use Rattle.model.specs.declared.edits.Edit.TheVariants.{New}
@@ -37,7 +37,7 @@ pub data Outcome (S : Shape) (m : Content) (ν : ℕ → ℕ) (e : Edit) (p : Re
   heard : p.0 ≡ q.0 → Agree S p.1 q.1 (number_on ν (length m.objects) e p) → Outcome S m ν e p q
 
 -- the new object and all others look as they should
-pub made_looks : {S : Shape} {s t : State} {root h p : ℕ} → Lawful S → Sound S s → root < 64 → S.legal h ≡ true → Made S s t root h p → Looks S (hold (add (heapGraph s) p h) root (suc p)) (heapGraph t)
+pub made_looks : {S : Shape} {s t : State} {root h p : ℕ} → Lawful S → Sound S s → root < 64 → S.legal h ≡ true → Made S s t root h p → Looks S (hold (add (heap_graph s) p h) root (suc p)) (heap_graph t)
 made_looks {S} {s} {t} {root} {h} {p} law sound l legal x = record {
   node = x.starts;
   head = λ q n. elim (is q n) [ inl e ↦ ap (word_in t) e ∙ x.head ∙ sym (on q h (word_in s q) e) | inr o ↦ old_head q o ∙ sym (off q h (word_in s q) o) ];
@@ -75,7 +75,7 @@ module _ {S : Shape} (law : Lawful S) {s : State} {m : Content} {ν : ℕ → �
   made_agree t l legal sound p x = record {
     sound = sound;
     whole = new-whole a.whole h root l law legal;
-    tied = subst (λ f. Tied S (heapGraph t) (modelGraph (with_root (with_object S m h) root (suc n))) f) numbers
+    tied = subst (λ f. Tied S (heap_graph t) (model_graph (with_root (with_object S m h) root (suc n))) f) numbers
         (tied_looks law (tied_equal law (tied_new a.tied a.whole.closed p n h root x.fresh (le-ltb n n (omega arith))) (new_equal a.whole h root l)) (made_looks law a.sound l legal x));
   }
     where
@@ -109,4 +109,4 @@ module _ {S : Shape} (law : Lawful S) {s : State} {m : Content} {ν : ℕ → �
           through E D (lacked refl (subst (λ t. Agree S t m ν) (sym x.effect) a))
       at l f (Some p, r) E D =
           let x = subst (Keeps S s (λ t r. Makes S s t root h r)) E keep in
-          through E D (heard refl (made_agree (withHeapRoot (born s.phase (laid (with_regions s r) p h (S.size h)) p (S.size h)) root (Some p)) l f x.sound x.effect.0 x.effect.1))
+          through E D (heard refl (made_agree (with_heap_root (born s.phase (laid (with_regions s r) p h (S.size h)) p (S.size h)) root (Some p)) l f x.sound x.effect.0 x.effect.1))

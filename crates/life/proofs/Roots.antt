@@ -1,13 +1,13 @@
 -- get, copy and clear make a root hold what a reference or a root of both holds, or nil: the two go on agreeing.
 use Rattle.std.proofs.Common.{◌≡◌, ℕ, zero, suc, ◌+◌, ◌-◌, ◌<◌, Bool, true, false, cond, ◌&&◌, eqb, ltb, length, get_or, Some, None, Ok, Err, Option, sym, refl, ap, ◌∙◌, subst, inl, inr, arith}
 use Rattle.image.specs.Content.{Content}
-use Rattle.heap.specs.Effects.{graph_of as heapGraph, Held, Gets, Copies, Clears}
+use Rattle.heap.specs.Effects.{graph_of as heap_graph, Held, Gets, Copies, Clears}
 use Rattle.heap.specs.Sound.{Sound}
 use Rattle.heap.proofs.Keeps.{Keeps}
 use Rattle.layout.specs.Shape.{Shape, Lawful}
-use Rattle.memory.specs.State.{State, word_in, root_in, with_root as withHeapRoot}
+use Rattle.memory.specs.State.{State, word_in, root_in, with_root as with_heap_root}
 use Rattle.memory.specs.Edits.{reference_to, named_by, get_reference, get_at, copy_root, clear_root}
-use Rattle.model.specs.Edits.{held, object_at, numbered, word_at, with_root, get_reference as modelGet, copy, clear, graph_of as modelGraph}
+use Rattle.model.specs.Edits.{held, object_at, numbered, word_at, with_root, get_reference as model_get, copy, clear, graph_of as model_graph}
 use Rattle.model.specs.declared.edits.Refusal.TheVariants.{WrongPosition}
 use Rattle.model.specs.declared.edits.Reply.{Reply}
 use Rattle.model.specs.declared.edits.Reply.TheVariants.{Granted, Refused}
@@ -27,7 +27,7 @@ named-reference {S} {s} h (suc q) ok =
     let e : suc q - 1 ≡ q = omega arith in
     ap reference_to (cond-false (eqb (suc q) 0) None (Some (suc q - 1)) (ne_eqb (suc q) 0 (λ z. omega arith)) ∙ ap Some e) ∙ reference_is h q (ok q refl)
 
-pub held_looks : {S : Shape} {s t : State} {k : ℕ} {v : Option ℕ} → Sound S s → k < 64 → Held s t k v → Looks S (hold (heapGraph s) k (reference_to v)) (heapGraph t)
+pub held_looks : {S : Shape} {s t : State} {k : ℕ} {v : Option ℕ} → Sound S s → k < 64 → Held s t k v → Looks S (hold (heap_graph s) k (reference_to v)) (heap_graph t)
 held_looks {S} {s} {t} {k} {v} h l x = record {
   node = λ p. ap (λ f. f p) x.starts;
   head = λ p n. ap (λ ws. get_or ws p 0) x.words;
@@ -41,7 +41,7 @@ held_looks {S} {s} {t} {k} {v} h l x = record {
 
 module _ {S : Shape} (law : Lawful S) {s : State} {m : Content} {ν : ℕ → ℕ} (a : Agree S s m ν) where
   -- root k takes over a reference that both have
-  pub hold_agree : (t : State) (k u : ℕ) (v : Option ℕ) → k < 64 → Sound S t → Held s t k v → Matched S (heapGraph s) (modelGraph m) ν (reference_to v) u → ((o : ℕ) → u ≡ suc o → o < length m.objects) → Agree S t (with_root m k u) ν
+  pub hold_agree : (t : State) (k u : ℕ) (v : Option ℕ) → k < 64 → Sound S t → Held s t k v → Matched S (heap_graph s) (model_graph m) ν (reference_to v) u → ((o : ℕ) → u ≡ suc o → o < length m.objects) → Agree S t (with_root m k u) ν
   hold_agree t k u v l sound x y ok = record {
     sound = sound;
     whole = root-whole a.whole k u l ok;
@@ -54,9 +54,9 @@ module _ {S : Shape} (law : Lawful S) {s : State} {m : Content} {ν : ℕ → �
     | inl e ↦ (let E = cond-true _ _ _ e in alike E (cond-true _ _ _ e) (refl, go e (subst (Keeps S s (λ t r. Copies s t i k r)) E keep)))
   ]
     where
-      go : (ltb i 64 && ltb k 64) ≡ true → Keeps S s (λ t r. Copies s t i k r) (Ok tt, withHeapRoot s k (root_in s i)) → Agree S (withHeapRoot s k (root_in s i)) (with_root m k (held m i)) ν
+      go : (ltb i 64 && ltb k 64) ≡ true → Keeps S s (λ t r. Copies s t i k r) (Ok tt, with_heap_root s k (root_in s i)) → Agree S (with_heap_root s k (root_in s i)) (with_root m k (held m i)) ν
       go e x =
-          hold_agree (withHeapRoot s k (root_in s i)) k (held m i) (root_in s i) (ltb-true k 64 (and_parts (ltb i 64) (ltb k 64) e).1) x.sound x.effect.0
+          hold_agree (with_heap_root s k (root_in s i)) k (held m i) (root_in s i) (ltb-true k 64 (and_parts (ltb i 64) (ltb k 64) e).1) x.sound x.effect.0
           (root_matched a.tied i) (λ o z. ltb-true o _ (a.whole.closed.roots i o z))
 
   pub clear_alike : (i : ℕ) → Keeps S s (λ t r. Clears s t i r) (clear_root s i) → Alike S ν (clear_root s i) (clear m i)
@@ -65,10 +65,10 @@ module _ {S : Shape} (law : Lawful S) {s : State} {m : Content} {ν : ℕ → �
     | inl e ↦ (let E = cond-true _ _ _ e in alike E (cond-true _ _ _ e) (refl, go e (subst (Keeps S s (λ t r. Clears s t i r)) E keep)))
   ]
     where
-      go : ltb i 64 ≡ true → Keeps S s (λ t r. Clears s t i r) (Ok tt, withHeapRoot s i None) → Agree S (withHeapRoot s i None) (with_root m i 0) ν
-      go e x = hold_agree (withHeapRoot s i None) i 0 None (ltb-true i 64 e) x.sound x.effect.0 nil (λ o z. absurd (omega arith))
+      go : ltb i 64 ≡ true → Keeps S s (λ t r. Clears s t i r) (Ok tt, with_heap_root s i None) → Agree S (with_heap_root s i None) (with_root m i 0) ν
+      go e x = hold_agree (with_heap_root s i None) i 0 None (ltb-true i 64 e) x.sound x.effect.0 nil (λ o z. absurd (omega arith))
 
-  pub get_alike : (i position k : ℕ) → Keeps S s (λ t r. Gets S s t i position k r) (get_reference S s i position k) → Alike S ν (get_reference S s i position k) (modelGet S m i position k)
+  pub get_alike : (i position k : ℕ) → Keeps S s (λ t r. Gets S s t i position k r) (get_reference S s i position k) → Alike S ν (get_reference S s i position k) (model_get S m i position k)
   get_alike i position k keep = elim (cases_Bool (ltb i 64 && ltb k 64)) [
     | inr e ↦ alike (cond-false _ _ _ e) (cond-false _ _ _ e) (refl, a)
     | inl e ↦ at e (at_root a i)
@@ -77,7 +77,7 @@ module _ {S : Shape} (law : Lawful S) {s : State} {m : Content} {ν : ℕ → �
       done : Reply × Content
       done = cond (S.reference (numbered m (held m i)).header position) (Granted, with_root m k (word_at (numbered m (held m i)) position)) (Refused WrongPosition, m)
 
-      at : (ltb i 64 && ltb k 64) ≡ true → At s m ν i → Alike S ν (get_reference S s i position k) (modelGet S m i position k)
+      at : (ltb i 64 && ltb k 64) ≡ true → At s m ν i → Alike S ν (get_reference S s i position k) (model_get S m i position k)
       at e (none n z) = alike (cond-true _ _ _ e ∙ ap (λ o. get_at S s o position k) n) (cond-true _ _ _ e ∙ of_nil m i done z) (refl, a)
       at e (some p n st z) = elim (cases_Bool (S.reference (word_in s p) position)) [
         | inr f ↦ alike (heap ∙ cond-false _ _ _ f) (model ∙ cond-false _ _ _ (same f)) (refl, a)
@@ -87,25 +87,25 @@ module _ {S : Shape} (law : Lawful S) {s : State} {m : Content} {ν : ℕ → �
           v : Option ℕ
           v = named_by (word_in s (p + position))
 
-          heap : get_reference S s i position k ≡ cond (S.reference (word_in s p) position) (Ok tt, withHeapRoot s k (named_by (word_in s (p + position)))) (Err WrongPosition, s)
+          heap : get_reference S s i position k ≡ cond (S.reference (word_in s p) position) (Ok tt, with_heap_root s k (named_by (word_in s (p + position)))) (Err WrongPosition, s)
           heap = cond-true _ _ _ e ∙ ap (λ o. get_at S s o position k) n
 
-          model : modelGet S m i position k ≡ done
+          model : model_get S m i position k ≡ done
           model = cond-true _ _ _ e ∙ of_object_lem m i (ν p) done z
 
           same : {b : Bool} → S.reference (word_in s p) position ≡ b → S.reference (numbered m (held m i)).header position ≡ b
           same f = ap (λ h. S.reference h position) (sym (head_is a i p st z)) ∙ f
 
-          go : S.reference (word_in s p) position ≡ true → Keeps S s (λ t r. Gets S s t i position k r) (Ok tt, withHeapRoot s k (named_by (word_in s (p + position)))) → Agree S (withHeapRoot s k (named_by (word_in s (p + position)))) (with_root m k (word_at (numbered m (held m i)) position)) ν
+          go : S.reference (word_in s p) position ≡ true → Keeps S s (λ t r. Gets S s t i position k r) (Ok tt, with_heap_root s k (named_by (word_in s (p + position)))) → Agree S (with_heap_root s k (named_by (word_in s (p + position)))) (with_root m k (word_at (numbered m (held m i)) position)) ν
           go f x =
-              let t = withHeapRoot s k (named_by (word_in s (p + position))) in
+              let t = with_heap_root s k (named_by (word_in s (p + position))) in
               let u = word_at (object_at m.objects (ν p)) position in
               let o : Some x.effect.0 ≡ Some p = sym x.effect.1 ∙ n in
               let c : x.effect.0 ≡ p = cc in
               let y : Held s t k (named_by (word_in s (p + position))) = subst (λ q. Held s t k (named_by (word_in s (q + position)))) c x.effect.3 in
               let r : reference_to (named_by (word_in s (p + position))) ≡ word_in s (p + position) = named-reference a.sound (word_in s (p + position)) (λ q w. a.sound.linked p position q st f w) in
-              let w : Matched S (heapGraph s) (modelGraph m) ν (word_in s (p + position)) u = field_matched a.tied p position st (reached a i p z) f in
+              let w : Matched S (heap_graph s) (model_graph m) ν (word_in s (p + position)) u = field_matched a.tied p position st (reached a i p z) f in
               subst (λ d. Agree S t (with_root m k (word_at d position)) ν) (sym (object_is m (held m i) (ν p) z))
               (hold_agree t k u (named_by (word_in s (p + position))) (ltb-true k 64 (and_parts (ltb i 64) (ltb k 64) e).1) x.sound y
-              (subst (λ d. Matched S (heapGraph s) (modelGraph m) ν d u) (sym r) w)
+              (subst (λ d. Matched S (heap_graph s) (model_graph m) ν d u) (sym r) w)
               (λ q d. ltb-true q _ (a.whole.closed.fields (ν p) position q (a.tied.numbered p st) (ap (λ h. S.reference h position) (sym (a.tied.heads p st)) ∙ f) d)))

@@ -5,7 +5,7 @@ use Rattle.heap.proofs.Making.{making_sound}
 use Rattle.layout.specs.Shape.{Shape}
 use Rattle.memory.specs.Edits.{reference_to}
 use Rattle.memory.specs.Objects.{making}
-use Rattle.model.specs.Edits.{start, graph_of as modelGraph}
+use Rattle.model.specs.Edits.{start, graph_of as model_graph}
 use Rattle.model.specs.Graph.{Reach, by_root, by_field}
 use Rattle.model.proofs.Contents.{start-whole, zeros}
 use Rattle.std.proofs.lemmas.Bool.{cases_lt, false≢true}
@@ -19,7 +19,7 @@ none-held n k = elim (cases_lt k n) [ inl l ↦ get_or-replicate n k None None l
 no_root : (k q : ℕ) → reference_to (get_or {A = Option ℕ} (replicate 64 None) k None) ≡ suc q → ⊥
 no_root k q e = let z : reference_to (get_or {A = Option ℕ} (replicate 64 None) k None) ≡ 0 = ap reference_to (none-held 64 k) in omega arith
 
-none_reached : {S : Shape} (n : ℕ) → Reach S (modelGraph start) n → ⊥
+none_reached : {S : Shape} (n : ℕ) → Reach S (model_graph start) n → ⊥
 none_reached n (by_root k e) = omega (arith, zeros 64 k)
 none_reached n (by_field {o = x} i r f e) = none_reached x r
 

@@ -1,14 +1,14 @@
 -- set and put write a word into the object that a root holds, and into the object of its number: the two go on agreeing.
 use Rattle.std.proofs.Common.{◌≡◌, ℕ, suc, ◌+◌, ◌<◌, ◌≤◌, Bool, true, cond, ◌&&◌, eqb, ltb, ◌⊎◌, length, get_or, Some, None, Ok, Err, Result, sym, refl, ap, ◌∙◌, subst, inl, inr, arith}
 use Rattle.image.specs.Content.{Content}
-use Rattle.heap.specs.Effects.{graph_of as heapGraph, Wrote, Sets, Puts}
+use Rattle.heap.specs.Effects.{graph_of as heap_graph, Wrote, Sets, Puts}
 use Rattle.heap.specs.Sound.{Sound}
 use Rattle.heap.proofs.Geometry.{some_word}
 use Rattle.heap.proofs.Keeps.{Keeps}
 use Rattle.layout.specs.Shape.{Shape, Lawful, plain}
-use Rattle.memory.specs.State.{State, word_in, root_in, with_word as withHeapWord}
+use Rattle.memory.specs.State.{State, word_in, root_in, with_word as with_heap_word}
 use Rattle.memory.specs.Edits.{reference_to, set_reference, set_at, storing, put_word, put_at}
-use Rattle.model.specs.Edits.{held, object_at, numbered, with_word, set_reference as modelSet, put_word as modelPut, graph_of as modelGraph}
+use Rattle.model.specs.Edits.{held, object_at, numbered, with_word, set_reference as model_set, put_word as model_put, graph_of as model_graph}
 use Rattle.model.specs.declared.edits.Refusal.{Refusal}
 use Rattle.model.specs.declared.edits.Refusal.TheVariants.{WrongPosition}
 use Rattle.model.specs.declared.edits.Reply.{Reply}
@@ -33,7 +33,7 @@ pub alike : {S : Shape} {ν : ℕ → ℕ} {p p' : Result (Unit {0}) Refusal × 
 alike {S} {ν} {p} {p'} {q} {q'} e d x = subst (λ y. Alike S ν y q') (sym e) (subst (λ z. Alike S ν p z) (sym d) x)
 
 -- the object at p is the same in a new state, but for the word at position i
-pub wrote_looks : {S : Shape} {s t : State} {p i w : ℕ} → Sound S s → s.starts p ≡ true → 1 ≤ i → Wrote S s t p i w → Looks S (write (heapGraph s) p i w) (heapGraph t)
+pub wrote_looks : {S : Shape} {s t : State} {p i w : ℕ} → Sound S s → s.starts p ≡ true → 1 ≤ i → Wrote S s t p i w → Looks S (write (heap_graph s) p i w) (heap_graph t)
 wrote_looks {S} {s} {t} {p} {i} {w} h st l x = record {
   node = x.starts;
   head = λ q n. head q n;
@@ -65,7 +65,7 @@ module _ {S : Shape} (law : Lawful S) {s : State} {m : Content} {ν : ℕ → �
     within : i < S.size (object_at m.objects (ν p)).header
     within = subst (λ h. i < S.size h) (a.tied.heads p st) k
 
-    pub set_agree : S.reference (word_in s p) i ≡ true → Matched S (heapGraph s) (modelGraph m) ν w u → ((q : ℕ) → u ≡ suc q → q < length m.objects) → Agree S t (with_word m (suc (ν p)) i u) ν
+    pub set_agree : S.reference (word_in s p) i ≡ true → Matched S (heap_graph s) (model_graph m) ν w u → ((q : ℕ) → u ≡ suc q → q < length m.objects) → Agree S t (with_word m (suc (ν p)) i u) ν
     set_agree f y ok = record {
       sound = sound;
       whole = word-whole a.whole (ν p) i u (number_below a p st) l within law (λ g. ok);
@@ -76,10 +76,10 @@ module _ {S : Shape} (law : Lawful S) {s : State} {m : Content} {ν : ℕ → �
     put_agree f e = record {
       sound = sound;
       whole = word-whole a.whole (ν p) i u (number_below a p st) l within law (λ g. absurd (not_both S (word_in s p) i f (subst (λ h. S.reference h i ≡ true) (sym (a.tied.heads p st)) g)));
-      tied = tied_looks law (tied_equal law (subst (λ v. Tied S (write (heapGraph s) p i w) (write (modelGraph m) (ν p) i v) ν) e (tied_plain a.tied p i st f w)) (word_equal a.whole (ν p) i u (number_below a p st) l within)) (wrote_looks a.sound st l x);
+      tied = tied_looks law (tied_equal law (subst (λ v. Tied S (write (heap_graph s) p i w) (write (model_graph m) (ν p) i v) ν) e (tied_plain a.tied p i st f w)) (word_equal a.whole (ν p) i u (number_below a p st) l within)) (wrote_looks a.sound st l x);
     }
 
-  pub set_alike : (i position k : ℕ) → Keeps S s (λ t r. Sets S s t i position k r) (set_reference S s i position k) → Alike S ν (set_reference S s i position k) (modelSet S m i position k)
+  pub set_alike : (i position k : ℕ) → Keeps S s (λ t r. Sets S s t i position k r) (set_reference S s i position k) → Alike S ν (set_reference S s i position k) (model_set S m i position k)
   set_alike i position k keep = elim (cases_Bool (ltb i 64 && ltb k 64)) [
     | inr e ↦ alike (cond-false _ _ _ e) (cond-false _ _ _ e) (refl, a)
     | inl e ↦ at e (at_root a i)
@@ -91,7 +91,7 @@ module _ {S : Shape} (law : Lawful S) {s : State} {m : Content} {ν : ℕ → �
       named : (q : ℕ) → held m k ≡ suc q → q < length m.objects
       named q z = ltb-true q _ (a.whole.closed.roots k q z)
 
-      at : (ltb i 64 && ltb k 64) ≡ true → At s m ν i → Alike S ν (set_reference S s i position k) (modelSet S m i position k)
+      at : (ltb i 64 && ltb k 64) ≡ true → At s m ν i → Alike S ν (set_reference S s i position k) (model_set S m i position k)
       at e (none n z) = alike (cond-true _ _ _ e ∙ ap (λ o. set_at S s o position (reference_to (root_in s k))) n) (cond-true _ _ _ e ∙ of_nil m i done z) (refl, a)
       at e (some p n st z) = elim (cases_Bool (S.reference (word_in s p) position)) [
         | inr f ↦ alike (heap ∙ cond-false _ _ _ f) (model ∙ cond-false _ _ _ (same f)) (refl, a)
@@ -101,7 +101,7 @@ module _ {S : Shape} (law : Lawful S) {s : State} {m : Content} {ν : ℕ → �
           heap : set_reference S s i position k ≡ cond (S.reference (word_in s p) position) (Ok tt, storing s p position (reference_to (root_in s k))) (Err WrongPosition, s)
           heap = cond-true _ _ _ e ∙ ap (λ o. set_at S s o position (reference_to (root_in s k))) n
 
-          model : modelSet S m i position k ≡ done
+          model : model_set S m i position k ≡ done
           model = cond-true _ _ _ e ∙ of_object_lem m i (ν p) done z
 
           same : {b : Bool} → S.reference (word_in s p) position ≡ b → S.reference (numbered m (held m i)).header position ≡ b
@@ -118,7 +118,7 @@ module _ {S : Shape} (law : Lawful S) {s : State} {m : Content} {ν : ℕ → �
               subst (λ v. Agree S t (with_word m v position (held m k)) ν) (sym z)
               (set_agree t p position w (held m k) st b.0 b.1 x.sound y f (root_matched a.tied k) named)
 
-  pub put_alike : (i position word : ℕ) → Keeps S s (λ t r. Puts S s t i position word r) (put_word S s i position word) → Alike S ν (put_word S s i position word) (modelPut S m i position word)
+  pub put_alike : (i position word : ℕ) → Keeps S s (λ t r. Puts S s t i position word r) (put_word S s i position word) → Alike S ν (put_word S s i position word) (model_put S m i position word)
   put_alike i position word keep = elim (cases_Bool (ltb i 64)) [
     | inr e ↦ alike (cond-false _ _ _ e) (cond-false _ _ _ e) (refl, a)
     | inl e ↦ at e (at_root a i)
@@ -127,25 +127,25 @@ module _ {S : Shape} (law : Lawful S) {s : State} {m : Content} {ν : ℕ → �
       done : Reply × Content
       done = cond (plain S (numbered m (held m i)).header position) (Granted, with_word m (held m i) position word) (Refused WrongPosition, m)
 
-      at : ltb i 64 ≡ true → At s m ν i → Alike S ν (put_word S s i position word) (modelPut S m i position word)
+      at : ltb i 64 ≡ true → At s m ν i → Alike S ν (put_word S s i position word) (model_put S m i position word)
       at e (none n z) = alike (cond-true _ _ _ e ∙ ap (λ o. put_at S s o position word) n) (cond-true _ _ _ e ∙ of_nil m i done z) (refl, a)
       at e (some p n st z) = elim (cases_Bool (plain S (word_in s p) position)) [
         | inr f ↦ alike (heap ∙ cond-false _ _ _ f) (model ∙ cond-false _ _ _ (same f)) (refl, a)
         | inl f ↦ (let E = heap ∙ cond-true _ _ _ f in alike E (model ∙ cond-true _ _ _ (same f)) (refl, go f (subst (Keeps S s (λ t r. Puts S s t i position word r)) E keep)))
       ]
         where
-          heap : put_word S s i position word ≡ cond (plain S (word_in s p) position) (Ok tt, withHeapWord s (p + position) word) (Err WrongPosition, s)
+          heap : put_word S s i position word ≡ cond (plain S (word_in s p) position) (Ok tt, with_heap_word s (p + position) word) (Err WrongPosition, s)
           heap = cond-true _ _ _ e ∙ ap (λ o. put_at S s o position word) n
 
-          model : modelPut S m i position word ≡ done
+          model : model_put S m i position word ≡ done
           model = cond-true _ _ _ e ∙ of_object_lem m i (ν p) done z
 
           same : {b : Bool} → plain S (word_in s p) position ≡ b → plain S (numbered m (held m i)).header position ≡ b
           same f = ap (λ h. plain S h position) (sym (head_is a i p st z)) ∙ f
 
-          go : plain S (word_in s p) position ≡ true → Keeps S s (λ t r. Puts S s t i position word r) (Ok tt, withHeapWord s (p + position) word) → Agree S (withHeapWord s (p + position) word) (with_word m (held m i) position word) ν
+          go : plain S (word_in s p) position ≡ true → Keeps S s (λ t r. Puts S s t i position word r) (Ok tt, with_heap_word s (p + position) word) → Agree S (with_heap_word s (p + position) word) (with_word m (held m i) position word) ν
           go f x =
-              let t = withHeapWord s (p + position) word in
+              let t = with_heap_word s (p + position) word in
               let o : Some x.effect.0 ≡ Some p = sym x.effect.1 ∙ n in
               let c : x.effect.0 ≡ p = cc in
               let b = plain-inside S (word_in s p) position f in

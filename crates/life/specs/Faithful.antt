@@ -1,6 +1,6 @@
 -- A heap shows its planner what the heap that never collects would show.
 use Rattle.std.specs.Prelude.{◌≡◌, ℕ, suc, Bool, true, false, cond, List, [], ◌∷◌, length, Some, None, Ok, Err, Option, Result, ◌==◌}
-use Rattle.heap.specs.Effects.{graph_of as heapGraph}
+use Rattle.heap.specs.Effects.{graph_of as heap_graph}
 use Rattle.image.specs.Content.{Content}
 use Rattle.layout.specs.Shape.{Shape}
 use Rattle.bitset.specs.Set.{first_of}
@@ -10,7 +10,7 @@ use Rattle.marking.specs.declared.scanning.Marked.{Marked as Progress}
 use Rattle.marking.specs.declared.scanning.Marked.TheVariants.{Scanned as OneScanned, Done as AllDone}
 use Rattle.memory.specs.State.{State, root_in}
 use Rattle.memory.specs.Edits.{reference_to}
-use Rattle.model.specs.Edits.{start, graph_of as modelGraph, edited as modelEdited}
+use Rattle.model.specs.Edits.{start, graph_of as model_graph, edited as model_edited}
 use Rattle.model.specs.Tied.{Tied}
 use Rattle.model.specs.declared.edits.Edit.{Edit}
 use Rattle.model.specs.declared.edits.Edit.TheVariants.{New, Set, Get, Put, Peek, Copy, Clear, Same, Head}
@@ -80,11 +80,11 @@ seen (c ∷ cs) (o ∷ os) = seen_of c o (seen cs os)
 -- what the heap that never collects answers to edits, and what it holds after them
 abbrev pub replies : Shape → Content → List Edit → List Reply
 replies S m [] = []
-replies S m (e ∷ es) = (modelEdited S m e).0 ∷ replies S (modelEdited S m e).1 es
+replies S m (e ∷ es) = (model_edited S m e).0 ∷ replies S (model_edited S m e).1 es
 
 abbrev pub told : Shape → Content → List Edit → Content
 told S m [] = m
-told S m (e ∷ es) = told S (modelEdited S m e).1 es
+told S m (e ∷ es) = told S (model_edited S m e).1 es
 
 -- the answers are those of the heap that never collects
 abbrev pub Faithful : Shape → List Call → List Answer → Type 0
@@ -125,7 +125,7 @@ hearing S b e p =
     (record { heap = p.1; model = b.model; number = b.number; snapshot = b.snapshot; scans = b.scans })
     (record {
       heap = p.1;
-      model = (modelEdited S b.model e).1;
+      model = (model_edited S b.model e).1;
       number = number_on b.number (length b.model.objects) e p;
       snapshot = b.snapshot;
       scans = b.scans;
@@ -163,4 +163,4 @@ outset s = record { heap = s; model = start; number = λ p. 0; snapshot = start;
 -- the heap after the calls is tied to the heap that heard the same edits, by the numbers that its objects bear
 abbrev pub TiedAfter : Shape → State → List Call → List Answer → State → Type 0
 TiedAfter S s cs os t =
-    Tied S (heapGraph t) (modelGraph (told S start (heard cs os))) (living S (outset s) cs).number
+    Tied S (heap_graph t) (model_graph (told S start (heard cs os))) (living S (outset s) cs).number

@@ -5,7 +5,7 @@ use Rattle.layout.specs.Cabling.{cabling, kind_of}
 use Rattle.layout.specs.Counted.{counted}
 use Rattle.leb128.specs.declared.Fault.{Fault}
 use Rattle.leb128.specs.declared.Number.{Number}
-use Rattle.leb128.specs.Number.{encode, read_at, refusal_of as numberRefusalOf}
+use Rattle.leb128.specs.Number.{encode, read_at, refusal_of as number_refusal_of}
 use Rattle.image.specs.declared.refusals.Refusal.{Refusal}
 use Rattle.image.specs.Content.{Content}
 use Rattle.image.specs.Read.{read, refusal_of}
@@ -15,7 +15,7 @@ use Rattle.verdict.specs.Space.{verdict_of}
 -- the number by which a fault of a number is reported
 abbrev pub number_reported : Result Number Fault → Option ℕ
 number_reported (Ok p) = None
-number_reported (Err f) = Some (numberRefusalOf f)
+number_reported (Err f) = Some (number_refusal_of f)
 
 -- the number, the place and the object of a refused image
 abbrev pub reported : Result Content Refusal → Option (ℕ × ℕ × ℕ)

@@ -5,7 +5,7 @@ use Rattle.layout.specs.Shape.{Shape}
 use Rattle.model.specs.declared.edits.Refusal.{Refusal}
 use Rattle.model.specs.declared.edits.Refusal.TheVariants.{RootAbove63, IllegalHeader, NoSpace}
 use Rattle.tables.specs.declared.regions.Regions.{Regions}
-use Rattle.tables.specs.Regions.{making as makingRegions, taken, added_live}
+use Rattle.tables.specs.Regions.{making as making_regions, taken, added_live}
 use Rattle.tables.specs.Marks.{no_marks, made_marked}
 use Rattle.tables.specs.Cards.{clean_cards}
 use Rattle.memory.specs.declared.phase.Phase.{Phase}
@@ -19,7 +19,7 @@ making words spare =
       words = words;
       spare = spare;
       roots = replicate 64 None;
-      regions = makingRegions (length words);
+      regions = making_regions (length words);
       starts = empty;
       marks = no_marks;
       cards = clean_cards;
