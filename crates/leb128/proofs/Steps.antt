@@ -31,10 +31,6 @@ follow_bounded (b ∷ bs) left ty k =
     let up : 0 < left = grind (arith, nat_tests) in
     joined_bounded b left (follow bs (left - 1)) (ty 0) up (omega arith) (follow_bounded bs (left - 1) (λ i. ty (suc i)) (omega arith)))))
 
-pub follow-none : (bs : List ℕ) (left : ℕ) → length bs < 1 → follow bs left ≡ Err EndsEarly
-follow-none [] left h = refl
-follow-none (b ∷ bs) left h = absurd (omega arith)
-
 pub follow_zero : (bs : List ℕ) (left : ℕ) → 1 ≤ length bs → get_or bs 0 0 ≡ 0 → follow bs left ≡ Err NotShortest
 follow_zero [] left h z = absurd (omega arith)
 follow_zero (b ∷ bs) left h z = grind (arith, nat_tests)
@@ -53,6 +49,10 @@ pub decode_more : (bs : List ℕ) → 1 ≤ length bs → 128 ≤ get_or bs 0 0 
 decode_more [] h b = absurd (omega arith)
 decode_more (x ∷ bs) h b = grind (arith, nat_tests)
 
+pub decode-none : (bs : List ℕ) → length bs < 1 → Err EndsEarly ≡ decode bs
+decode-none [] h = refl
+decode-none (b ∷ bs) h = absurd (omega arith)
+
 pub decode-one : (bs : List ℕ) → 1 ≤ length bs → get_or bs 0 0 < 128 → Ok (get_or bs 0 0, 1) ≡ decode bs
 decode-one [] h l = absurd (omega arith)
 decode-one (b ∷ bs) h l = grind (arith, nat_tests)
@@ -67,7 +67,7 @@ decode_two (x ∷ y ∷ bs) h a p l = grind (arith, nat_tests)
 pub decode-follow : (bs : List ℕ) → 1 ≤ length bs → 128 ≤ get_or bs 0 0 → follow bs 4 ≡ decode bs
 decode-follow bs h b = follow_more bs 4 h b (omega arith) ∙ sym (decode_more bs h b)
 
--- the same with the rest of the bytes as a slice pattern names it
+-- the bytes after the first as a slice pattern names them
 pub follow_rest : (bs : List ℕ) (left : ℕ) (r : Decoded) → 1 ≤ length bs → 128 ≤ get_or bs 0 0 → 0 < left →
     r ≡ follow (take (length bs - 1) (drop 1 bs)) (left - 1) → joined (get_or bs 0 0) r ≡ follow bs left
 follow_rest bs left r h b k e =

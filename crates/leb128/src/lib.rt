@@ -17,12 +17,12 @@ pub enum Fault {
     TooWide,
 }
 
-impl Fault {
-    /// The number by which the fault is reported.
-    pub fn refusal(self) -> u32
-        ensures { result ≡ refusal_of self }
-    {
-        match self {
+/// The number by which the fault is reported.
+impl From<Fault> for u32 {
+    ghost from_gives = { λ fault number. number ≡ refusal_of fault };
+
+    fn from(fault: Fault) -> u32 {
+        match fault {
             Fault::EndsEarly => 10,
             Fault::NotShortest => 11,
             Fault::TooWide => 12,
@@ -45,19 +45,12 @@ fn read_following(bytes: &[u8], left: u32) -> Result<(u32, usize), Fault>
 {
     match bytes {
         [] => Err(Fault::EndsEarly),
+        [0, ..] => Err(Fault::NotShortest),
+        [byte, ..] if left == 0 && *byte > 15 => Err(Fault::TooWide),
+        [byte, ..] if *byte < 128 => Ok((u32::from(*byte), 1)),
         [byte, rest @ ..] => {
-            let byte = *byte;
-            if byte == 0 {
-                return Err(Fault::NotShortest);
-            }
-            if left == 0 && byte > 15 {
-                return Err(Fault::TooWide);
-            }
-            if byte < 128 {
-                return Ok((u32::from(byte), 1));
-            }
             let (value, length) = read_following(rest, left - 1)?;
-            Ok((u32::from(byte - 128) + 128 * value, length + 1))
+            Ok((u32::from(*byte - 128) + 128 * value, length + 1))
         }
     }
 }
@@ -68,71 +61,53 @@ pub fn read(bytes: &[u8], at: usize) -> Result<Number, Fault>
     ensures value { result ≡ read_at bytes.now at }
     ensures laws { Reading bytes.now at result }
 {
-    if at >= bytes.len() {
-        return Err(Fault::EndsEarly);
-    }
-    let byte = bytes[at];
-    if byte < 128 {
-        return Ok(Number {
-            value: u32::from(byte),
+    let rest = bytes.get(at..).unwrap_or(&[]);
+    match rest {
+        [] => Err(Fault::EndsEarly),
+        [byte, ..] if *byte < 128 => Ok(Number {
+            value: u32::from(*byte),
             next: at + 1,
-        });
-    }
-    if at + 1 < bytes.len() {
-        let second = bytes[at + 1];
-        if second < 128 && second > 0 {
-            let value = u32::from(byte - 128) + 128 * u32::from(second);
-            return Ok(Number {
+        }),
+        [byte, second, ..] if 0 < *second && *second < 128 => Ok(Number {
+            value: u32::from(*byte - 128) + 128 * u32::from(*second),
+            next: at + 2,
+        }),
+        _ => {
+            let (value, length) = read_following(rest, 4)?;
+            Ok(Number {
                 value,
-                next: at + 2,
-            });
+                next: at + length,
+            })
         }
     }
-    let (value, length) = read_following(&bytes[at..], 4)?;
-    Ok(Number {
-        value,
-        next: at + length,
-    })
 }
 
-// How many groups of seven bits `value` has.
-fn group_count(value: u32) -> usize
-    ensures { result ≡ group_count value }
-{
-    if value < 0x80 {
-        1
-    } else if value < 0x4000 {
-        2
-    } else if value < 0x20_0000 {
-        3
-    } else if value < 0x1000_0000 {
-        4
-    } else {
-        5
-    }
-}
-
-/// How many bytes the written form of `value` has.
+/// How many bytes the written form of `value` has, one for each group of seven bits.
 pub fn encoded_len(value: u32) -> usize
     ensures length { result ≡ length (encode value) }
     ensures range { (1 ≤ result) × (result ≤ 5) }
 {
-    group_count(value)
+    match value {
+        ..0x80 => 1,
+        ..0x4000 => 2,
+        ..0x20_0000 => 3,
+        ..0x1000_0000 => 4,
+        _ => 5,
+    }
 }
 
-// Writes the groups of `value`, of which at most `left` follow the first, and tells the position after them.
-fn write_groups(out: &mut [u8], at: usize, value: u32, left: u32) -> usize
+// Writes the groups of `value`, of which at most `left` follow the first.
+fn write_groups(out: &mut [u8], at: usize, value: u32, left: u32)
     requires low { value < limit left }
     requires room { at + length (groups left value) ≤ length out.old }
-    ensures next { result ≡ at + length (groups left value) }
-    ensures after { out.new ≡ replaced out.old at (groups left value) }
+    ensures { out.new ≡ replaced out.old at (groups left value) }
 {
     if value < 128 {
         out[at] = value as u8;
-        return at + 1;
+    } else {
+        out[at] = 128 + (value % 128) as u8;
+        write_groups(out, at + 1, value / 128, left - 1);
     }
-    out[at] = 128 + (value % 128) as u8;
-    write_groups(out, at + 1, value / 128, left - 1)
 }
 
 /// Writes `value` at the position `at` and tells the position after it. Without room for all of its
@@ -140,9 +115,10 @@ fn write_groups(out: &mut [u8], at: usize, value: u32, left: u32) -> usize
 pub fn write(out: &mut [u8], at: usize, value: u32) -> Option<usize>
     ensures { MatchOption result ((length out.old < at + length (encode value)) × (out.new ≡ out.old)) (λ next. (next ≡ at + length (encode value)) × (next ≤ length out.old) × (out.new ≡ overwritten out.old at (encode value))) }
 {
-    let room = out.len();
-    if at > room || room - at < encoded_len(value) {
+    let next = at.checked_add(encoded_len(value))?;
+    if next > out.len() {
         return None;
     }
-    Some(write_groups(out, at, value, 4))
+    write_groups(out, at, value, 4);
+    Some(next)
 }
