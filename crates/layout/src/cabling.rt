@@ -1,5 +1,5 @@
 //! The layout of the cabling of a building: rooms, racks, panels, ports, cables and labels.
-ghost use Rattle.std.specs.Prelude.{◌≡◌};
+ghost use Rattle.std.specs.Prelude.{◌≡◌, refl};
 ghost use Rattle.layout.specs.Cabling.{cabling, kind_of, kind_size, kind_reference};
 ghost use Rattle.std.proofs.Common.{rules};
 
@@ -30,10 +30,13 @@ pub enum Kind {
 impl Kind {
     /// The kind that the lowest byte of `header` names: 1 is a room, 2 a rack, 3 a panel, 4 a port, 5 a cable, 6 a label, and
     /// any other none.
+    //
+    // No `TryFrom`: what names no kind is no error with more to say, and its type would stand for one case.
     pub fn of(header: u32) -> Option<Kind>
         ensures { result ≡ kind_of header }
     {
-        match header % 256 {
+        let [number, ..] = header.to_le_bytes();
+        match number {
             1 => Some(Kind::Room),
             2 => Some(Kind::Rack),
             3 => Some(Kind::Panel),
@@ -73,35 +76,29 @@ impl Kind {
 impl Layout for Cabling {
     ghost shape = { cabling };
 
+    ghost IMAGE_SIGN = { 2 };
+
     const IMAGE_SIGN: u32 = 2;
+
+    ghost SAMPLE_HEADER = { 6 };
 
     const SAMPLE_HEADER: u32 = 6;
 
     ghost lawful = { Prim.search rules };
 
-    fn sign() -> u32 {
-        Self::IMAGE_SIGN
-    }
+    ghost sign = { refl };
 
-    fn sample() -> u32 {
-        Self::SAMPLE_HEADER
-    }
+    ghost sample = { refl };
 
     fn legal(header: u32) -> bool {
         Kind::of(header).is_some()
     }
 
     fn size(header: u32) -> u32 {
-        match Kind::of(header) {
-            Some(kind) => kind.size(),
-            None => 0,
-        }
+        Kind::of(header).map_or(0, Kind::size)
     }
 
     fn is_reference(header: u32, position: u32) -> bool {
-        match Kind::of(header) {
-            Some(kind) => kind.is_reference(position),
-            None => false,
-        }
+        Kind::of(header).is_some_and(|kind| kind.is_reference(position))
     }
 }

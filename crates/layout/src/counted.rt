@@ -1,5 +1,5 @@
 //! The layout whose headers count.
-ghost use Rattle.std.specs.Prelude.{◌≡◌};
+ghost use Rattle.std.specs.Prelude.{◌≡◌, refl};
 ghost use Rattle.layout.specs.Counted.{counted, reference_count, plain_count};
 ghost use Rattle.std.proofs.Common.{rules};
 
@@ -16,32 +16,34 @@ pub struct Counted;
 fn reference_count(header: u32) -> u32
     ensures { result ≡ reference_count header }
 {
-    header % 256
+    let [references, ..] = header.to_le_bytes();
+    u32::from(references)
 }
 
 /// How many plain words `header` names.
 fn plain_count(header: u32) -> u32
     ensures { result ≡ plain_count header }
 {
-    header / 256 % 256
+    let [_, plain, ..] = header.to_le_bytes();
+    u32::from(plain)
 }
 
 impl Layout for Counted {
     ghost shape = { counted };
 
+    ghost IMAGE_SIGN = { 1 };
+
     const IMAGE_SIGN: u32 = 1;
+
+    ghost SAMPLE_HEADER = { 0 };
 
     const SAMPLE_HEADER: u32 = 0;
 
     ghost lawful = { Prim.search rules };
 
-    fn sign() -> u32 {
-        Self::IMAGE_SIGN
-    }
+    ghost sign = { refl };
 
-    fn sample() -> u32 {
-        Self::SAMPLE_HEADER
-    }
+    ghost sample = { refl };
 
     fn legal(header: u32) -> bool {
         reference_count(header) + plain_count(header) <= 63
@@ -56,6 +58,6 @@ impl Layout for Counted {
     }
 
     fn is_reference(header: u32, position: u32) -> bool {
-        Self::legal(header) && 1 <= position && position <= reference_count(header)
+        Self::legal(header) && (1..=reference_count(header)).contains(&position)
     }
 }

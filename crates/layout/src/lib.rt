@@ -5,7 +5,7 @@
 mod cabling;
 mod counted;
 
-ghost use Rattle.std.specs.Prelude.{◌≡◌};
+ghost use Rattle.std.specs.Prelude.{◌≡◌, ℕ};
 ghost use Rattle.layout.specs.Shape.{Shape, Lawful, plain};
 
 pub use cabling::{Cabling, Kind};
@@ -18,19 +18,15 @@ pub use counted::Counted;
 pub trait Layout {
     ghost shape: { Shape };
 
+    ghost IMAGE_SIGN: { ℕ };
+
     /// The sign that images of this layout carry, from 1 to 127.
     const IMAGE_SIGN: u32;
 
+    ghost SAMPLE_HEADER: { ℕ };
+
     /// A header that is legal.
     const SAMPLE_HEADER: u32;
-
-    /// `IMAGE_SIGN` as a call, which the contract ties to `shape`.
-    fn sign() -> u32
-        ensures { result ≡ shape.sign };
-
-    /// `SAMPLE_HEADER` as a call, in the same way.
-    fn sample() -> u32
-        ensures { result ≡ shape.sample };
 
     /// Whether `header` is legal.
     fn legal(header: u32) -> bool
@@ -45,6 +41,11 @@ pub trait Layout {
         ensures { result ≡ shape.reference header position };
 
     ghost lawful: { Lawful shape };
+
+    // The sign and the sample of the shape are the constants.
+    ghost sign: { IMAGE_SIGN ≡ shape.sign };
+
+    ghost sample: { SAMPLE_HEADER ≡ shape.sample };
 }
 
 /// Whether the word at `position` of an object under `header` is plain: it stands after the header, and is no reference.
@@ -52,5 +53,5 @@ pub trait Layout {
 pub fn is_plain<L: Layout>(header: u32, position: u32) -> bool
     ensures { result ≡ plain L.shape header position }
 {
-    position >= 1 && position < L::size(header) && !L::is_reference(header, position)
+    (1..L::size(header)).contains(&position) && !L::is_reference(header, position)
 }
