@@ -11,8 +11,8 @@ fn best_from<P: Policy>(policy: &P, candidates: &[Summary], from: usize) -> usiz
     ensures { FirstOf (P.before policy.now) candidates.now from (length candidates.now) result }
 {
     let mut best = from;
-    for place in from + 1..candidates.len() {
-        if policy.comes_before(&candidates[place], &candidates[best]) {
+    for (place, candidate) in candidates.iter().enumerate().skip(from + 1) {
+        if policy.comes_before(candidate, &candidates[best]) {
             best = place;
         }
     }
@@ -40,6 +40,7 @@ pub fn choose<P: Policy>(policy: &P, candidates: &mut [Summary], count: usize) -
     ensures first { Apart candidates.old → Leads (P.before policy.now) result candidates.new }
 {
     let chosen = count.min(candidates.len());
+    // Each turn exchanges two candidates, so it takes a place: an iterator over the candidates would hold them.
     for place in 0..chosen {
         bring_best(policy, candidates, place);
     }
