@@ -1,12 +1,16 @@
 -- The laws of words and bytes: what is read, what a write leaves, and that bytes are their words and then their spare bytes.
-use Rattle.std.proofs.Common.{◌≡◌, ℕ, zero, suc, ◌+◌, ◌*◌, ◌/◌, ◌%◌, ◌<◌, ◌≤◌, ltb, ◌≢◌, List, [], ◌∷◌, ◌++◌, map, length, get_or, drop, set, Ok, Err, sym, refl, ap, ◌∙◌, ⊎_elim, arith}
+use Rattle.std.proofs.Common.{◌≡◌, ℕ, zero, suc, ◌+◌, ◌-◌, ◌*◌, ◌/◌, ◌%◌, ◌^◌, ◌<◌, ◌≤◌, ◌≢◌, List, [], ◌∷◌, ◌++◌, map, length, get_or, take, drop, set, sym, refl, ap, ◌∙◌, ⊎_elim, arith}
 use Rattle.std.specs.List.{range_with_len, flat_map}
 use Rattle.std.proofs.lemmas.List.FromFn.{length-map-range_with_len, get_or-map-range_with_len}
-use Rattle.std.proofs.lemmas.List.{length-set, get_or-set_same, get_or-set_other, set_past, drop-set-lt, drop_more, ext_get_or}
-use Rattle.std.proofs.lemmas.Bool.{cases_eq, cases_lt, cond_both, cond-true, cond-false, lt-ltb, le-ltb, ltb-true, ltb-false}
-use Rattle.store.specs.declared.Outside.{Outside}
-use Rattle.store.specs.Access.{inside, read_at, write_at}
-use Rattle.store.specs.Words.{word_at, words_of, spare_of, four_bytes, bytes_of, word_read, word_done, four_set, word_written}
+use Rattle.std.proofs.lemmas.List.{length-set, get_or-set_same, get_or-set_other, drop-set-lt, drop_more, drop-drop, get_or-drop, get_or-take, ext_get_or}
+use Rattle.std.proofs.lemmas.List.Edits.{paste_more, paste_none}
+use Rattle.std.proofs.Math.Seq.{paste}
+use Rattle.std.proofs.lemmas.Slice.{put_mid-paste}
+use Rattle.std.specs.Int.{from_le_bytes, to_le_bytes, w32}
+use Rattle.std.specs.Simd.{first_chunks}
+use borrow.Rule.Slice.PartMut.{put_mid}
+use Rattle.std.proofs.lemmas.Bool.{cases_eq}
+use Rattle.store.specs.Words.{word_at, words_of, spare_of, four_bytes, bytes_of}
 
 -- ---- the words of bytes
 
@@ -18,18 +22,50 @@ get_d_words : (bs : List ℕ) (i : ℕ) → i < length bs / 4 → get_or (words_
 unfolding words_of
 get_d_words bs i h = get_or-map-range_with_len (word_at bs) 0 (length bs / 4) i i 0 h (omega arith)
 
-pub done-words : (bs : List ℕ) (i : ℕ) → word_done bs i ≡ write_at (words_of bs) i
-done-words bs i = rw length-words
+-- bs with the four bytes of w from the position p on
+abbrev pub four_set : List ℕ → ℕ → ℕ → List ℕ
+four_set bs p w = set (set (set (set bs p (w % 256)) (p + 1) (w / 256 % 256)) (p + 2) (w / 65536 % 256)) (p + 3) (w / 16777216)
 
-inside-same : {X : Type 0} (n i : ℕ) (x y : X) → (i < n → x ≡ y) → inside n i x ≡ inside n i y
-inside-same n i x y same =
-    ⊎_elim
-    (λ l. ap (λ z. inside n i z) (same l))
-    (λ l. let e = le-ltb i n l in cond-false _ _ _ e ∙ sym (cond-false _ _ _ e))
-    (cases_lt i n)
+-- ---- the same by groups of four bytes, as the code goes
 
-pub read-words : (bs : List ℕ) (i : ℕ) → word_read bs i ≡ read_at (words_of bs) i
-read-words bs i = rw length-words (inside-same (length bs / 4) i (word_at bs i) (get_or (words_of bs) i 0) (λ l. sym (get_d_words bs i l)))
+-- the group at i begins at the byte 4 * i
+four_at : (k : ℕ) (bs : List ℕ) (i : ℕ) (d : List ℕ) → i < k → get_or (first_chunks 4 k bs) i d ≡ take 4 (drop (4 * i) bs)
+four_at zero bs i d h = absurd (omega arith)
+four_at (suc k) bs zero d h = refl
+four_at (suc k) bs (suc i) d h =
+    let next : 4 + 4 * i ≡ 4 * suc i = omega arith in
+    four_at k (drop 4 bs) i d (omega arith) ∙ ap (take 4) (drop-drop (4 * i) 4 bs ∙ ap (λ n. drop n bs) next)
+
+-- read as a number, it is the word at i
+pub word_of_four : (bs : List ℕ) (i : ℕ) (d : List ℕ) → i < length bs / 4
+    → from_le_bytes w32 (get_or (first_chunks 4 (length bs / 4) bs) i d) ≡ get_or (words_of bs) i 0
+word_of_four bs i d h =
+    let there : word_at bs i ≡ get_or (words_of bs) i 0 = sym (get_d_words bs i h) in
+    let byte : (j q : ℕ) → j < 4 → 4 * i + j ≡ q → get_or (take 4 (drop (4 * i) bs)) j 0 ≡ get_or bs q 0 =
+    λ j q l e. get_or-take 4 _ j 0 l ∙ get_or-drop (4 * i) bs j 0 ∙ ap (λ k. get_or bs k 0) e in
+    rw (four_at (length bs / 4) bs i d h, byte 0 (4 * i) (omega arith) (omega arith), byte 1 (4 * i + 1) (omega arith) refl)
+    (rw (byte 2 (4 * i + 2) (omega arith) refl, byte 3 (4 * i + 3) (omega arith) refl) (omega arith))
+
+-- four bytes put over a part of bs are four single writes
+four_pasted : (bs : List ℕ) (p k a b c d : ℕ) → k ≡ 4 → p + 3 < length bs
+    → put_mid p k bs (a ∷ b ∷ c ∷ d ∷ []) ≡ set (set (set (set bs p a) (p + 1) b) (p + 2) c) (p + 3) d
+four_pasted bs p k a b c d e l =
+    let four : List ℕ = a ∷ b ∷ c ∷ d ∷ [] in
+    let here : p + 0 ≡ p = omega arith in
+    put_mid-paste p k bs four four 4 refl (sym e) refl
+    ∙ sym (paste_more bs p four 3 0 l (omega arith)) ∙ ap (λ l. set l (p + 3) d)
+    (sym (paste_more bs p four 2 0 (omega arith) (omega arith)) ∙ ap (λ l. set l (p + 2) c)
+    (sym (paste_more bs p four 1 0 (omega arith) (omega arith)) ∙ ap (λ l. set l (p + 1) b)
+    (sym (paste_more bs p four 0 0 (omega arith) (omega arith)) ∙ ap (λ q. set (paste bs p four 0) q a) here ∙ ap (λ l. set l p a) (sym (paste_none bs p four)))))
+
+-- put over its group, the bytes of w are those that `four_set` writes
+pub word_pasted : (bs cs ys : List ℕ) (i w : ℕ) → cs ≡ bs → ys ≡ to_le_bytes w32 w → i < length bs / 4 → w < 2 ^ 32
+    → put_mid (4 * i) (4 * i + 4 - 4 * i) cs ys ≡ four_set bs (4 * i) w
+word_pasted bs cs ys i w e is h small =
+    let high : w / 16777216 % 256 ≡ w / 16777216 = omega arith in
+    rw (e, is)
+    (four_pasted bs (4 * i) _ (w % 256) (w / 256 % 256) (w / 65536 % 256) (w / 16777216 % 256) (omega arith) (omega arith)
+    ∙ ap (set _ (4 * i + 3)) high)
 
 -- ---- what a write leaves: another word at one index, all else as it was
 
@@ -82,7 +118,7 @@ word-there bs i w j ne =
     let e3 = at_other bs (4 * i) w (4 * j + 3) (omega arith) (omega arith) (omega arith) (omega arith) in
     rw (e0, e1, e2, e3)
 
-words_four : (bs : List ℕ) (i w : ℕ) → i < length bs / 4 → words_of (four_set bs (4 * i) w) ≡ set (words_of bs) i w
+pub words_four : (bs : List ℕ) (i w : ℕ) → i < length bs / 4 → words_of (four_set bs (4 * i) w) ≡ set (words_of bs) i w
 words_four bs i w h =
     let cs : List ℕ = four_set bs (4 * i) w in
     let same : length cs / 4 ≡ length bs / 4 = ap (λ n. n / 4) (length_four bs (4 * i) w) in
@@ -96,13 +132,7 @@ words_four bs i w h =
     (λ ne. word-there bs i w k ne ∙ sym (get_d_words bs k (omega arith)) ∙ sym (get_or-set_other (words_of bs) i k w 0 ne))
     (cases_eq k i))
 
-pub words-written : (bs : List ℕ) (i w : ℕ) → words_of (word_written bs i w) ≡ set (words_of bs) i w
-words-written bs i w =
-    cond_both (ltb i (length bs / 4)) (four_set bs (4 * i) w) bs (λ cs. words_of cs ≡ set (words_of bs) i w)
-    (λ e. words_four bs i w (ltb-true i (length bs / 4) e))
-    (λ e. sym (set_past (words_of bs) i w (omega (arith, length-words bs, ltb-false i (length bs / 4) e))))
-
-spare_four : (bs : List ℕ) (i w : ℕ) → i < length bs / 4 → spare_of (four_set bs (4 * i) w) ≡ spare_of bs
+pub spare_four : (bs : List ℕ) (i w : ℕ) → i < length bs / 4 → spare_of (four_set bs (4 * i) w) ≡ spare_of bs
 unfolding spare_of
 spare_four bs i w h =
     let n : ℕ = 4 * (length bs / 4) in
@@ -111,12 +141,6 @@ spare_four bs i w h =
     let l2 : 4 * i + 2 < n = omega arith in
     let l3 : 4 * i + 3 < n = omega arith in
     rw length_four (simp drop-set-lt)
-
-pub spare-written : (bs : List ℕ) (i w : ℕ) → spare_of (word_written bs i w) ≡ spare_of bs
-spare-written bs i w =
-    cond_both (ltb i (length bs / 4)) (four_set bs (4 * i) w) bs (λ cs. spare_of cs ≡ spare_of bs)
-    (λ e. spare_four bs i w (ltb-true i (length bs / 4) e))
-    (λ e. refl)
 
 -- ---- bytes are their words and then their spare bytes
 
@@ -139,11 +163,11 @@ drop_four bs p l =
     λ q r e m. drop_more bs q 0 m ∙ ap (λ k. get_or bs q 0 ∷ drop k bs) e in
     rw (one p (p + 1) refl (omega arith), one (p + 1) (p + 2) (omega arith) (omega arith), one (p + 2) (p + 3) (omega arith) (omega arith), one (p + 3) (p + 4) (omega arith) l)
 
-module _ (bs : List ℕ) (small : (k : ℕ) → get_or bs k 0 < 256) where
+module _ (bs : List ℕ) (small : (k : ℕ) → k < length bs → get_or bs k 0 < 256) where
   four_back : (i : ℕ) → 4 * i + 3 < length bs → four_bytes (word_at bs i) ++ drop (4 * i + 4) bs ≡ drop (4 * i) bs
   four_back i l =
       ap (λ four. four ++ drop (4 * i + 4) bs)
-      (four_of (get_or bs (4 * i) 0) (get_or bs (4 * i + 1) 0) (get_or bs (4 * i + 2) 0) (get_or bs (4 * i + 3) 0) (small _) (small _) (small _))
+      (four_of (get_or bs (4 * i) 0) (get_or bs (4 * i + 1) 0) (get_or bs (4 * i + 2) 0) (get_or bs (4 * i + 3) 0) (small _ (omega arith)) (small _ (omega arith)) (small _ (omega arith)))
       ∙ sym (drop_four bs (4 * i) l)
 
   words_back : (n i m : ℕ) → i + n ≡ m → 4 * m ≤ length bs → flat_map four_bytes (map (word_at bs) (range_with_len i n)) ++ drop (4 * m) bs ≡ drop (4 * i) bs
@@ -156,12 +180,3 @@ module _ (bs : List ℕ) (small : (k : ℕ) → get_or bs k 0 < 256) where
   pub bytes_back : bs ≡ bytes_of (words_of bs) ++ spare_of bs
   unfolding words_of bytes_of spare_of
   bytes_back = sym (words_back (length bs / 4) 0 (length bs / 4) (omega arith) (omega arith))
-
--- ---- a refused read
-
-pub refused-past : (ws : List ℕ) (i : ℕ) (e : Outside) → Err e ≡ read_at ws i → length ws ≤ i
-refused-past ws i e h =
-    ⊎_elim
-    (λ l. let r : read_at ws i ≡ Ok (get_or ws i 0) = cond-true _ _ _ (lt-ltb i (length ws) l) in let z : ◌≡◌ {A = ℕ} 0 1 = cc in omega arith)
-    (λ l. l)
-    (cases_lt i (length ws))

@@ -1,7 +1,7 @@
 //! The store over a vector of bytes.
-ghost use Rattle.std.specs.Prelude.{◌≡◌, ℕ, ◌/◌, ◌<◌, ◌++◌, length, slice_index};
-ghost use Rattle.store.specs.Held.{bytes_in, decoded_words, spare_bytes};
-ghost use Rattle.store.specs.Words.{words_of, bytes_of, spare_of, word_read, word_done, word_written};
+ghost use Rattle.std.specs.Prelude.{◌≡◌, ◌++◌};
+ghost use Rattle.store.specs.Held.{decoded_words, spare_bytes};
+ghost use Rattle.store.specs.Words.{words_of, bytes_of, spare_of};
 
 use crate::{Outside, Store};
 
@@ -26,15 +26,6 @@ impl ByteStore {
     pub fn into_bytes(self) -> Vec<u8>
         ensures { result.items ≡ bytes_of (decoded_words self) ++ spare_bytes self }
     {
-        let bytes = self.into_vec();
-        below_256(bytes.as_slice());
-        bytes
-    }
-
-    /// The vector of bytes itself.
-    fn into_vec(self) -> Vec<u8>
-        ensures { result.items ≡ bytes_in self }
-    {
         let ByteStore { bytes } = self;
         bytes
     }
@@ -46,57 +37,23 @@ impl Store for ByteStore {
     ghost spare = { spare_bytes };
 
     fn len(&self) -> usize {
-        word_count(self.bytes.as_slice())
+        self.bytes.len() / 4
     }
 
     fn read(&self, index: usize) -> Result<u32, Outside> {
-        read_word(self.bytes.as_slice(), index)
+        let (words, _) = self.bytes.as_chunks();
+        words
+            .get(index)
+            .map(|word| u32::from_le_bytes(*word))
+            .ok_or(Outside)
     }
 
     fn write(&mut self, index: usize, word: u32) -> Result<(), Outside> {
-        write_word(self.bytes.as_mut_slice(), index, word)
+        if index >= self.len() {
+            return Err(Outside);
+        }
+        let at = 4 * index;
+        self.bytes[at..at + 4].copy_from_slice(&word.to_le_bytes());
+        Ok(())
     }
-}
-
-/// How many whole words `bytes` holds.
-fn word_count(bytes: &[u8]) -> usize
-    ensures { result ≡ length bytes.now / 4 }
-{
-    bytes.len() / 4
-}
-
-/// The word at `index`.
-fn read_word(bytes: &[u8], index: usize) -> Result<u32, Outside>
-    ensures { result ≡ word_read bytes.now index }
-{
-    if word_count(bytes) <= index {
-        return Err(Outside);
-    }
-    let at = 4 * index;
-    let low = u32::from(bytes[at]) + 0x100 * u32::from(bytes[at + 1]);
-    let high = u32::from(bytes[at + 2]) + 0x100 * u32::from(bytes[at + 3]);
-    Ok(low + 0x1_0000 * high)
-}
-
-/// Puts `word` at `index`. All other bytes stay as they were, and where `index` lies outside all bytes do.
-fn write_word(bytes: &mut [u8], index: usize, word: u32) -> Result<(), Outside>
-    ensures answer { result ≡ word_done bytes.old index }
-    ensures after { bytes.new ≡ word_written bytes.old index word }
-{
-    if index >= word_count(bytes) {
-        return Err(Outside);
-    }
-    let at = 4 * index;
-    bytes[at] = (word % 0x100) as u8;
-    bytes[at + 1] = (word / 0x100 % 0x100) as u8;
-    bytes[at + 2] = (word / 0x1_0000 % 0x100) as u8;
-    bytes[at + 3] = (word / 0x100_0000) as u8;
-    Ok(())
-}
-
-/// Tells a proof that each byte is below 256, which it learns of bytes that a call takes. It does nothing else.
-fn below_256(bytes: &[u8])
-    ensures { (k : ℕ) → slice_index bytes.now k < 256 }
-{
-    let _none = bytes.is_empty();
 }

@@ -43,8 +43,5 @@ pub trait Store {
 pub fn word_or_zero<S: Store>(store: &S, index: u32) -> u32
     ensures { result ≡ slice_index (S.words store.now) index }
 {
-    match store.read(index as usize) {
-        Ok(word) => word,
-        Err(_) => 0,
-    }
+    store.read(index as usize).unwrap_or(0)
 }
