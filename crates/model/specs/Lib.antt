@@ -1,4 +1,5 @@
 pub mod Refusals
+pub mod Roots
 pub mod Graph
 pub mod Edits
 pub mod Held

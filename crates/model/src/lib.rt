@@ -5,6 +5,8 @@
 mod edits;
 mod model;
 mod object;
+mod roots;
 
 pub use edits::{Edit, Refusal, Reply};
 pub use model::Model;
+pub use roots::root_index;
