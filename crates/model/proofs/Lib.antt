@@ -1,4 +1,3 @@
-mod Objects
 pub mod Changes
 pub mod Holding
 pub mod Writing

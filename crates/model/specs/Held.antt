@@ -1,22 +1,19 @@
 -- What the running heap holds.
-use Rattle.std.specs.Prelude.{Bool, false, ◌&&◌, List, map, vec_items}
+use Rattle.std.specs.Prelude.{Bool, false, ◌&&◌, vec_items}
 use Rattle.layout.specs.Shape.{Shape}
 use Rattle.model.specs.Edits.{is_root}
 use Rattle.model.specs.declared.edits.Edit.{Edit}
 use Rattle.model.specs.declared.edits.Edit.TheVariants.{New, Set, Get, Put, Peek, Copy, Clear, Same, Head}
 use Rattle.image.specs.Content.{Content, Object}
-use Rattle.model.specs.declared.object.Object.{Object as Held}
-use Rattle.model.specs.declared.model.Model.{Model}
+use Rattle.model.specs.declared.object.Object.TheInside.{Inside as Held}
+use Rattle.model.specs.declared.model.Model.TheInside.{Inside}
 
 abbrev pub object_of : Held → Object
 object_of o = record { header = o.header; body = vec_items o.body }
 
-abbrev pub objects_of : List Held → List Object
-objects_of os = map object_of os
-
 -- its roots, and its objects in the order of their numbers
-abbrev pub content : {L : Type 0} → Model L → Content
-content m = record { roots = m.roots; objects = objects_of (vec_items m.objects) }
+abbrev pub content : {L : Type 0} → Inside L → Content
+content m = record { roots = m.roots; objects = vec_items m.objects }
 
 -- whether an edit makes an object; no other takes memory
 abbrev pub makes : Shape → Edit → Bool

@@ -65,7 +65,7 @@ pub enum Edit {
     Head { i: u32 },
 }
 
-/// The answer to an edit.
+/// The answer to an edit that is granted.
 #[derive(Clone, Copy)]
 pub enum Reply {
     /// It is done, and there is no more to say.
@@ -74,6 +74,4 @@ pub enum Reply {
     Word(u32),
     /// Whether the two roots hold the same.
     Same(bool),
-    /// It is refused, and altered nothing.
-    Refused(Refusal),
 }

@@ -1,16 +1,18 @@
 //! The heap that never collects, as it runs.
-ghost use Rattle.std.specs.Prelude.{◌≡◌, suc, ◌-◌, true, length, MatchResult};
-ghost use Rattle.model.specs.Edits.{start, numbered, word_at, with_word, with_object, new, set_reference, get_reference, put_word, peek, copy, clear, same, head, edited};
-ghost use Rattle.model.specs.Held.{content, makes};
+ghost use Rattle.std.specs.Prelude.{◌≡◌, suc, ◌-◌, true, cond, length, is_ok, Ok, Err, MatchResult};
+ghost use Rattle.model.specs.Edits.{start, numbered, word_at, with_word, with_object, held_number, new, set_reference, get_reference, put_word, peek, copy, clear, same, head, edited};
+ghost use Rattle.model.specs.Held.{makes};
+ghost use Rattle.model.specs.declared.edits.Refusal.TheVariants.{WrongPosition};
 
 use crate::edits::{Edit, Refusal, Reply};
 use crate::object::Object;
+use crate::roots::root_index;
 use layout::{Layout, is_plain};
 use std::alloc::{AllocError, Global};
 use std::marker::PhantomData;
 
 /// The heap that never collects: its objects in the order in which they were made, and 64 roots. A reference is the number of
-/// an object, from 1, and 0 is nil.
+/// an object, from 1, and 0 is nil, as docs/HEAP.md and the definitions have it. To a contract the heap is its content.
 #[derive(Drop)]
 pub struct Model<L: Layout> {
     layout: PhantomData<L>,
@@ -19,10 +21,20 @@ pub struct Model<L: Layout> {
     objects: Vec<Object>,
 }
 
+impl<L: Layout> std::marker::Model for Model<L> {
+    ghost use Rattle.image.specs.Content.{Content};
+
+    ghost Value = { Content };
+
+    ghost use Rattle.model.specs.Held.{content};
+
+    ghost view = { content };
+}
+
 impl<L: Layout> Model<L> {
     /// The heap with no objects and 64 nil roots.
     pub fn empty(heap: Global) -> Model<L>
-        ensures { content result ≡ start }
+        ensures { result ≡ start }
     {
         Self {
             layout: PhantomData,
@@ -34,27 +46,25 @@ impl<L: Layout> Model<L> {
 
     /// The header of object `number`, or 0 where there is none.
     fn header(&self, number: u32) -> u32
-        ensures { result ≡ (numbered (content self.now) number).header }
+        ensures { result ≡ (numbered self.now number).header }
     {
-        match self.objects.get(place(number)) {
-            Some(object) => object.header,
-            None => 0,
-        }
+        self.objects
+            .get(place(number))
+            .map_or(0, |object| object.header)
     }
 
     /// The word at `position` of object `number`, or 0 where there is none.
     fn word(&self, number: u32, position: u32) -> u32
-        ensures { result ≡ word_at (numbered (content self.now) number) position }
+        ensures { result ≡ word_at (numbered self.now number) position }
     {
-        match self.objects.get(place(number)) {
-            Some(object) => object.word(place(position)),
-            None => 0,
-        }
+        self.objects
+            .get(place(number))
+            .map_or(0, |object| object.word(place(position)))
     }
 
     /// Puts `word` at `position` of object `number`. Where there is none it alters nothing.
     fn put_word(&mut self, number: u32, position: u32, word: u32)
-        ensures { content self.new ≡ with_word (content self.old) number position word }
+        ensures { self.new ≡ with_word self.old number position word }
     {
         if let Some(object) = self.objects.get_mut(place(number)) {
             object.put(place(position), word);
@@ -63,167 +73,136 @@ impl<L: Layout> Model<L> {
 
     /// Adds an object with a body of zeros, and gives its number. For want of memory, or of a number that fits, it adds nothing.
     fn add(&mut self, header: u32) -> Result<u32, AllocError>
-        ensures { MatchResult result (λ n. (n ≡ suc (length (content self.old).objects)) × (content self.new ≡ with_object L.shape (content self.old) header)) (λ _. content self.new ≡ content self.old) }
+        ensures { MatchResult result (λ n. (n ≡ suc (length self.old.objects)) × (self.new ≡ with_object L.shape self.old header)) (λ _. self.new ≡ self.old) }
     {
-        let count = self.objects.len();
-        if count >= u32::MAX as usize {
+        let Ok(number) = u32::try_from(self.objects.len() + 1) else {
             return Err(AllocError);
-        }
+        };
         let object = Object::blank(self.heap, header, place(L::size(header)))?;
         self.objects.push(object)?;
-        Ok(count as u32 + 1)
+        Ok(number)
+    }
+
+    /// The number of the object that root `i` holds.
+    fn held(&self, i: u32) -> Result<u32, Refusal>
+        ensures { result ≡ held_number self.now i }
+    {
+        let number = self.roots[root_index(i)?];
+        (number != 0).then_some(number).ok_or(Refusal::RootNil)
+    }
+
+    /// The number of the object that root `i` holds, if its header has what is wanted at the position.
+    fn held_where<F: FnOnce(u32) -> bool>(&self, i: u32, has: F) -> Result<u32, Refusal>
+        requires { F.IsAlwaysCallable has }
+        ensures { MatchResult (held_number self.now i) (λ n. F.post has (numbered self.now n).header (is_ok result) × (result ≡ cond (is_ok result) (Ok n) (Err WrongPosition))) (λ why. result ≡ Err why) }
+    {
+        let number = self.held(i)?;
+        has(self.header(number))
+            .then_some(number)
+            .ok_or(Refusal::WrongPosition)
     }
 
     /// Makes an object with that header and a body of zeros; the root then holds it.
     ///
     /// `AllocError` says that memory is wanting, or that the number of the object would not fit a `u32`. Then nothing is
     /// altered.
-    pub fn new(&mut self, root: u32, header: u32) -> Result<Reply, AllocError>
-        ensures { MatchResult result (λ reply. (reply, content self.new) ≡ new L.shape (content self.old) root header) (λ _. (content self.new ≡ content self.old) × (makes L.shape (Edit.New root header) ≡ true)) }
+    pub fn new(&mut self, root: u32, header: u32) -> Result<Result<(), Refusal>, AllocError>
+        ensures { MatchResult result (λ reply. (reply, self.new) ≡ new L.shape self.old root header) (λ _. (self.new ≡ self.old) × (makes L.shape (Edit.New root header) ≡ true)) }
     {
-        if root >= 64 {
-            return Ok(Reply::Refused(Refusal::RootAbove63));
-        }
-        if !L::legal(header) {
-            return Ok(Reply::Refused(Refusal::IllegalHeader));
-        }
-        self.roots[root as usize] = self.add(header)?;
-        Ok(Reply::Granted)
+        // `?` answers want of memory here, so a refusal is passed on by hand.
+        let index = match root_index(root) {
+            Ok(index) if L::legal(header) => index,
+            Ok(_) => return Ok(Err(Refusal::IllegalHeader)),
+            Err(refusal) => return Ok(Err(refusal)),
+        };
+        self.roots[index] = self.add(header)?;
+        Ok(Ok(()))
     }
 
     /// Stores what root `k` holds at a reference position of the object that root `i` holds.
-    pub fn set(&mut self, i: u32, position: u32, k: u32) -> Reply
-        ensures { (result, content self.new) ≡ set_reference L.shape (content self.old) i position k }
+    pub fn set(&mut self, i: u32, position: u32, k: u32) -> Result<(), Refusal>
+        ensures { (result, self.new) ≡ set_reference L.shape self.old i position k }
     {
-        if i >= 64 || k >= 64 {
-            return Reply::Refused(Refusal::RootAbove63);
-        }
-        let number = self.roots[i as usize];
-        if number == 0 {
-            return Reply::Refused(Refusal::RootNil);
-        }
-        if !L::is_reference(self.header(number), position) {
-            return Reply::Refused(Refusal::WrongPosition);
-        }
-        let reference = self.roots[k as usize];
+        let reference = self.roots[root_index(k)?];
+        let number = self.held_where(i, |header| L::is_reference(header, position))?;
         self.put_word(number, position, reference);
-        Reply::Granted
+        Ok(())
     }
 
     /// Loads root `k` from a reference position of the object that root `i` holds.
-    pub fn get(&mut self, i: u32, position: u32, k: u32) -> Reply
-        ensures { (result, content self.new) ≡ get_reference L.shape (content self.old) i position k }
+    pub fn get(&mut self, i: u32, position: u32, k: u32) -> Result<(), Refusal>
+        ensures { (result, self.new) ≡ get_reference L.shape self.old i position k }
     {
-        if i >= 64 || k >= 64 {
-            return Reply::Refused(Refusal::RootAbove63);
-        }
-        let number = self.roots[i as usize];
-        if number == 0 {
-            return Reply::Refused(Refusal::RootNil);
-        }
-        if !L::is_reference(self.header(number), position) {
-            return Reply::Refused(Refusal::WrongPosition);
-        }
-        self.roots[k as usize] = self.word(number, position);
-        Reply::Granted
+        let loaded = root_index(k)?;
+        let number = self.held_where(i, |header| L::is_reference(header, position))?;
+        self.roots[loaded] = self.word(number, position);
+        Ok(())
     }
 
     /// Stores a word at a plain position of the object that root `i` holds.
-    pub fn put(&mut self, i: u32, position: u32, word: u32) -> Reply
-        ensures { (result, content self.new) ≡ put_word L.shape (content self.old) i position word }
+    pub fn put(&mut self, i: u32, position: u32, word: u32) -> Result<(), Refusal>
+        ensures { (result, self.new) ≡ put_word L.shape self.old i position word }
     {
-        if i >= 64 {
-            return Reply::Refused(Refusal::RootAbove63);
-        }
-        let number = self.roots[i as usize];
-        if number == 0 {
-            return Reply::Refused(Refusal::RootNil);
-        }
-        if !is_plain::<L>(self.header(number), position) {
-            return Reply::Refused(Refusal::WrongPosition);
-        }
+        let number = self.held_where(i, |header| is_plain::<L>(header, position))?;
         self.put_word(number, position, word);
-        Reply::Granted
+        Ok(())
     }
 
-    /// Asks for the word at a plain position of the object that root `i` holds.
-    pub fn peek(&self, i: u32, position: u32) -> Reply
-        ensures { (result, content self.now) ≡ peek L.shape (content self.now) i position }
+    /// The word at a plain position of the object that root `i` holds.
+    pub fn peek(&self, i: u32, position: u32) -> Result<u32, Refusal>
+        ensures { (result, self.now) ≡ peek L.shape self.now i position }
     {
-        if i >= 64 {
-            return Reply::Refused(Refusal::RootAbove63);
-        }
-        let number = self.roots[i as usize];
-        if number == 0 {
-            return Reply::Refused(Refusal::RootNil);
-        }
-        if !is_plain::<L>(self.header(number), position) {
-            return Reply::Refused(Refusal::WrongPosition);
-        }
-        Reply::Word(self.word(number, position))
+        let number = self.held_where(i, |header| is_plain::<L>(header, position))?;
+        Ok(self.word(number, position))
     }
 
     /// Makes root `k` hold what root `i` holds.
-    pub fn copy(&mut self, i: u32, k: u32) -> Reply
-        ensures { (result, content self.new) ≡ copy (content self.old) i k }
+    pub fn copy(&mut self, i: u32, k: u32) -> Result<(), Refusal>
+        ensures { (result, self.new) ≡ copy self.old i k }
     {
-        if i >= 64 || k >= 64 {
-            return Reply::Refused(Refusal::RootAbove63);
-        }
-        self.roots[k as usize] = self.roots[i as usize];
-        Reply::Granted
+        self.roots[root_index(k)?] = self.roots[root_index(i)?];
+        Ok(())
     }
 
     /// Makes root `i` nil.
-    pub fn clear(&mut self, i: u32) -> Reply
-        ensures { (result, content self.new) ≡ clear (content self.old) i }
+    pub fn clear(&mut self, i: u32) -> Result<(), Refusal>
+        ensures { (result, self.new) ≡ clear self.old i }
     {
-        if i >= 64 {
-            return Reply::Refused(Refusal::RootAbove63);
-        }
-        self.roots[i as usize] = 0;
-        Reply::Granted
+        self.roots[root_index(i)?] = 0;
+        Ok(())
     }
 
-    /// Asks whether two roots hold the same.
-    pub fn same(&self, i: u32, k: u32) -> Reply
-        ensures { (result, content self.now) ≡ same (content self.now) i k }
+    /// Whether two roots hold the same.
+    pub fn same(&self, i: u32, k: u32) -> Result<bool, Refusal>
+        ensures { (result, self.now) ≡ same self.now i k }
     {
-        if i >= 64 || k >= 64 {
-            return Reply::Refused(Refusal::RootAbove63);
-        }
-        Reply::Same(self.roots[i as usize] == self.roots[k as usize])
+        Ok(self.roots[root_index(i)?] == self.roots[root_index(k)?])
     }
 
-    /// Asks for the header of the object that root `i` holds.
-    pub fn head(&self, i: u32) -> Reply
-        ensures { (result, content self.now) ≡ head (content self.now) i }
+    /// The header of the object that root `i` holds.
+    pub fn head(&self, i: u32) -> Result<u32, Refusal>
+        ensures { (result, self.now) ≡ head self.now i }
     {
-        if i >= 64 {
-            return Reply::Refused(Refusal::RootAbove63);
-        }
-        let number = self.roots[i as usize];
-        if number == 0 {
-            return Reply::Refused(Refusal::RootNil);
-        }
-        Reply::Word(self.header(number))
+        Ok(self.header(self.held(i)?))
     }
 
     /// Does `edit`. `AllocError` is the answer of `new`, and nothing is altered then.
-    pub fn edit(&mut self, edit: Edit) -> Result<Reply, AllocError>
-        ensures { MatchResult result (λ reply. (reply, content self.new) ≡ edited L.shape (content self.old) edit) (λ _. (content self.new ≡ content self.old) × (makes L.shape edit ≡ true)) }
+    pub fn edit(&mut self, edit: Edit) -> Result<Result<Reply, Refusal>, AllocError>
+        ensures { MatchResult result (λ reply. (reply, self.new) ≡ edited L.shape self.old edit) (λ _. (self.new ≡ self.old) × (makes L.shape edit ≡ true)) }
     {
-        match edit {
-            Edit::New { root, header } => self.new(root, header),
-            Edit::Set { i, position, k } => Ok(self.set(i, position, k)),
-            Edit::Get { i, position, k } => Ok(self.get(i, position, k)),
-            Edit::Put { i, position, word } => Ok(self.put(i, position, word)),
-            Edit::Peek { i, position } => Ok(self.peek(i, position)),
-            Edit::Copy { i, k } => Ok(self.copy(i, k)),
-            Edit::Clear { i } => Ok(self.clear(i)),
-            Edit::Same { i, k } => Ok(self.same(i, k)),
-            Edit::Head { i } => Ok(self.head(i)),
-        }
+        Ok(match edit {
+            Edit::New { root, header } => self.new(root, header)?.map(|()| Reply::Granted),
+            Edit::Set { i, position, k } => self.set(i, position, k).map(|()| Reply::Granted),
+            Edit::Get { i, position, k } => self.get(i, position, k).map(|()| Reply::Granted),
+            Edit::Put { i, position, word } => {
+                self.put(i, position, word).map(|()| Reply::Granted)
+            }
+            Edit::Peek { i, position } => self.peek(i, position).map(Reply::Word),
+            Edit::Copy { i, k } => self.copy(i, k).map(|()| Reply::Granted),
+            Edit::Clear { i } => self.clear(i).map(|()| Reply::Granted),
+            Edit::Same { i, k } => self.same(i, k).map(Reply::Same),
+            Edit::Head { i } => self.head(i).map(Reply::Word),
+        })
     }
 }
 
