@@ -1,5 +1,6 @@
 -- The cards of a heap: which are dirty, and which each region's table has. Cards are below 512.
-use Rattle.std.specs.Prelude.{ℕ, ◌+◌, ◌*◌, Bool, true, false, cond, ◌&&◌, ◌==◌, nat_lt}
+use Rattle.std.specs.Prelude.{ℕ, Bool, true, false, cond, ◌&&◌, List, Some, None, Option, ◌==◌, nat_lt, slice_get}
+use Rattle.bitset.specs.declared.bits.BitSet.{BitSet}
 use Rattle.bitset.specs.Members.{members}
 use Rattle.bitset.specs.Set.{empty, joined, put}
 use Rattle.tables.specs.declared.cards.Cards.{Cards}
@@ -9,15 +10,20 @@ pub record CardSets : Type 0 where
   -- whether the table of a region has a card
   pub table : ℕ → ℕ → Bool
 
--- the table of region g in the set of all tables
-unfoldable pub table_in : (ℕ → Bool) → ℕ → ℕ → Bool
-table_in f g d = cond (nat_lt d 512) (f (512 * g + d)) false
+-- the cards in a table; there are none where there is no table
+abbrev pub in_table : Option (BitSet 8) → ℕ → Bool
+in_table None d = false
+in_table (Some t) d = members t d
+
+-- the table of region g among the tables of all regions
+abbrev pub table_in : List (BitSet 8) → ℕ → ℕ → Bool
+table_in ts g d = in_table (slice_get ts g) d
 
 abbrev pub cards_of : Cards → CardSets
-cards_of c = record { dirty = members c.dirty; table = table_in (members c.remembered) }
+cards_of c = record { dirty = members c.dirty; table = table_in c.remembered }
 
 abbrev pub clean_cards : CardSets
-clean_cards = record { dirty = empty; table = table_in empty }
+clean_cards = record { dirty = empty; table = λ g. empty }
 
 abbrev pub dirtied : CardSets → ℕ → CardSets
 dirtied c d = record { dirty = joined 512 c.dirty d; table = c.table }

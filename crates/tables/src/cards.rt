@@ -6,11 +6,13 @@ ghost use Rattle.tables.specs.Cards.{cards_of, clean_cards, cleaned, dirtied, re
 use bitset::BitSet;
 
 /// Which cards are dirty, and which cards each region remembers.
+///
+/// Contracts read it by `cards_of`. It has no `impl Model`, whose value may hold no function, as these sets are.
 #[derive(Drop)]
 pub struct Cards {
     dirty: BitSet<8>,
-    /// Card `d` in the table of region `g` is the number 512 g + d.
-    remembered: BitSet<256>,
+    /// For each region the cards in its table.
+    remembered: [BitSet<8>; 32],
 }
 
 impl Cards {
@@ -20,7 +22,7 @@ impl Cards {
     {
         Cards {
             dirty: BitSet::new(),
-            remembered: BitSet::new(),
+            remembered: [BitSet::new(); 32],
         }
     }
 
@@ -36,10 +38,7 @@ impl Cards {
         ensures value { result ≡ first_of (cards_of self.now).dirty 0 512 }
         ensures bound { IfSome result (λ card. card < 512) }
     {
-        match self.dirty.lowest() {
-            Some(card) => Some(card as u32),
-            None => None,
-        }
+        self.dirty.lowest().map(|card| card as u32)
     }
 
     /// Makes a card clean.
@@ -53,8 +52,10 @@ impl Cards {
     pub fn remember(&mut self, region: u32, card: u32)
         ensures { cards_of self.new ≡ remembering (cards_of self.old) region card }
     {
-        if region < 32 && card < 512 {
-            self.remembered.insert(slot(region, card));
+        let region = region as usize;
+        // A test of the index, since std says nothing of an array's elements after `get_mut`.
+        if region < self.remembered.len() {
+            self.remembered[region].insert(card as usize);
         }
     }
 
@@ -69,16 +70,8 @@ impl Cards {
     pub fn is_remembered(&self, region: u32, card: u32) -> bool
         ensures { result ≡ (cards_of self.now).table region card }
     {
-        if card >= 512 {
-            return false;
-        }
-        self.remembered.contains(slot(region, card))
+        self.remembered
+            .get(region as usize)
+            .is_some_and(|table| table.contains(card as usize))
     }
-}
-
-/// The number of a card in the table of a region, in the set of all tables.
-fn slot(region: u32, card: u32) -> usize
-    ensures { result ≡ 512 * region + card }
-{
-    512 * region as usize + card as usize
 }

@@ -6,6 +6,8 @@ ghost use Rattle.std.specs.Prelude.{◌≡◌, slice_index};
 use bitset::BitSet;
 
 /// Which objects are marked, and which of these still wait for their scan.
+///
+/// Contracts read it by `marks_of`. It has no `impl Model`, whose value may hold no function, as these sets are.
 #[derive(Drop)]
 pub struct Marks {
     marked: BitSet<512>,
@@ -69,10 +71,7 @@ impl Marks {
     pub fn next_pending(&self) -> Option<u32>
         ensures { result ≡ first_of (marks_of self.now).pending 0 32768 }
     {
-        match self.pending.lowest() {
-            Some(place) => Some(place as u32),
-            None => None,
-        }
+        self.pending.lowest().map(|place| place as u32)
     }
 
     /// The object of `size` words at a place is scanned: it is pending no more, and its words are counted.
@@ -88,16 +87,8 @@ impl Marks {
     pub fn weight(&self, region: u8) -> u32
         ensures { result ≡ slice_index (marks_of self.now).weights region }
     {
-        weight_of(&self.weights, region)
+        self.weights.get(region as usize).copied().unwrap_or(0)
     }
-}
-
-/// The weight of a region; 0 where there is none.
-fn weight_of(weights: &[u32], region: u8) -> u32
-    ensures { result ≡ slice_index weights.now region }
-{
-    let g = region as usize;
-    if g < weights.len() { weights[g] } else { 0 }
 }
 
 /// Counts `size` more words in a region.
@@ -105,6 +96,7 @@ fn weigh(weights: &mut [u32], region: u32, size: u32)
     ensures { weights.new ≡ heavier weights.old region size }
 {
     let g = region as usize;
+    // A test of the index, since std says nothing of a slice's elements after `get_mut`.
     if g < weights.len() {
         weights[g] = weights[g].saturating_add(size);
     }

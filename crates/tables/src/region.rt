@@ -1,9 +1,10 @@
 //! One region.
 
 /// Whether a region is in use.
-#[derive(Clone, Copy, PartialEq, Eq, Debug)]
+#[derive(Clone, Copy, PartialEq, Eq, Debug, Default)]
 pub enum Kind {
     /// It holds no object.
+    #[default]
     Free,
     /// New objects go there.
     Open,
@@ -11,8 +12,8 @@ pub enum Kind {
     Closed,
 }
 
-/// What is known of a region.
-#[derive(Clone, Copy)]
+/// What is known of a region. A region that was never opened is the default one: free, with no words used.
+#[derive(Clone, Copy, Default)]
 pub struct Region {
     /// Whether it is in use.
     pub kind: Kind,

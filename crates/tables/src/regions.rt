@@ -1,22 +1,15 @@
 //! The regions of a heap, and where a new object goes.
-ghost use Rattle.std.specs.Prelude.{◌≡◌, ◌+◌, ◌-◌, ◌≤◌, slice_set};
+ghost use Rattle.std.specs.Prelude.{◌≡◌, ◌+◌, ◌-◌, ◌≤◌, Some};
 ghost use Rattle.bitset.specs.Set.{tally};
-ghost use Rattle.tables.specs.Regions.{added_live, appended, closed_kind, closing, first_free, is_free_at, making, next_free, opened, opening, region_at, room, taken, with_live_at, with_region};
+ghost use Rattle.tables.specs.Regions.{added_live, appended, closing, first_free, is_free_at, making, next_free, opened, opening, region_at, room, taken, with_live_at, with_region};
 
 use crate::region::{Kind, Region};
 
 /// The words of a region.
 const WORDS: u32 = 1024;
 
-/// A free region that was never opened.
-const BLANK: Region = Region {
-    kind: Kind::Free,
-    fill: 0,
-    live: 0,
-    stamp: 0,
-};
-
-/// The regions of a heap: at most 32.
+/// The regions of a heap: at most 32. Their table is an array in the struct, with a count beside it, since a heap allocates
+/// nothing.
 #[derive(Drop)]
 pub struct Regions {
     /// Each region; those from `count` on are not used.
@@ -35,8 +28,8 @@ impl Regions {
         ensures { result ≡ making words }
     {
         Regions {
-            entries: [BLANK; 32],
-            count: (words / 1024).min(32) as u8,
+            entries: [Region::default(); 32],
+            count: (words / WORDS as usize).min(32) as u8,
             last: 0,
             openings: 0,
         }
@@ -46,14 +39,18 @@ impl Regions {
     pub fn get(&self, g: u8) -> Region
         ensures { result ≡ region_at self.now.entries g }
     {
-        entry(&self.entries, g)
+        self.entries.get(g as usize).copied().unwrap_or_default()
     }
 
     /// Puts a region under a number.
     fn put(&mut self, g: u8, region: Region)
         ensures { self.new ≡ with_region self.old g region }
     {
-        replace(&mut self.entries, g, region);
+        let g = g as usize;
+        // A test of the index, since std says nothing of an array's elements after `get_mut`.
+        if g < self.entries.len() {
+            self.entries[g] = region;
+        }
     }
 
     /// Whether a region is free.
@@ -67,35 +64,22 @@ impl Regions {
     pub fn count_free(&self) -> u32
         ensures { result ≡ tally (is_free_at self.now.entries) 0 self.now.count }
     {
-        let mut n = 0;
-        for g in 0..self.count {
-            if self.is_free(g) {
-                n += 1;
-            }
-        }
-        n
+        (0..self.count).filter(|&g| self.is_free(g)).count() as u32
     }
 
     /// The first free region from `a` to below `b`.
     fn first_free(&self, a: u8, b: u8) -> Option<u8>
         ensures { result ≡ first_free self.now.entries a (b - a) }
     {
-        for g in a..b {
-            if self.is_free(g) {
-                return Some(g);
-            }
-        }
-        None
+        (a..b).find(|&g| self.is_free(g))
     }
 
     /// The region to open next: the first free one from the one opened last on, then from 0.
     fn next_free(&self) -> Option<u8>
         ensures { result ≡ next_free self.now }
     {
-        match self.first_free(self.last, self.count) {
-            Some(g) => Some(g),
-            None => self.first_free(0, self.last),
-        }
+        self.first_free(self.last, self.count)
+            .or_else(|| self.first_free(0, self.last))
     }
 
     /// Whether `size` more words go into the open region.
@@ -103,7 +87,11 @@ impl Regions {
         ensures { result ≡ room self.now size }
     {
         let region = self.get(self.last);
-        region.kind == Kind::Open && region.fill <= WORDS && size <= WORDS - region.fill
+        region.kind == Kind::Open
+            && region
+                .fill
+                .checked_add(size)
+                .is_some_and(|fill| fill <= WORDS)
     }
 
     /// The region opened last closes, if it is open.
@@ -111,13 +99,15 @@ impl Regions {
         ensures { self.new ≡ closing self.old }
     {
         let region = self.get(self.last);
-        self.put(
-            self.last,
-            Region {
-                kind: closed(region.kind),
-                ..region
-            },
-        );
+        if region.kind == Kind::Open {
+            self.put(
+                self.last,
+                Region {
+                    kind: Kind::Closed,
+                    ..region
+                },
+            );
+        }
     }
 
     /// Opens a region with its first `size` words used.
@@ -147,15 +137,15 @@ impl Regions {
         Some(WORDS * u32::from(g))
     }
 
-    /// Uses `size` words at the end of the region opened last.
-    fn append(&mut self, size: u32) -> Option<u32>
+    /// Uses `size` words at the end of the region opened last. The answer is where they begin.
+    fn append(&mut self, size: u32) -> u32
         requires { ((region_at self.old.entries self.old.last).fill + size) ≤ 1024 }
-        ensures { (result, self.new) ≡ appended self.old size }
+        ensures { (Some result, self.new) ≡ appended self.old size }
     {
         let region = self.get(self.last);
         let fill = region.fill + size;
         self.put(self.last, Region { fill, ..region });
-        Some(WORDS * u32::from(self.last) + region.fill)
+        WORDS * u32::from(self.last) + region.fill
     }
 
     /// Takes `size` words for a new object: in the open region if it has room, or else in another that opens, if at least two
@@ -164,7 +154,7 @@ impl Regions {
         ensures { (result, self.new) ≡ taken self.old size }
     {
         if self.has_room(size) {
-            return self.append(size);
+            return Some(self.append(size));
         }
         if self.count_free() < 2 {
             return None;
@@ -186,34 +176,5 @@ impl Regions {
     {
         let live = self.get(g).live.saturating_add(size);
         self.set_live(g, live);
-    }
-}
-
-/// What an open region becomes when it closes; any other stays as it is.
-fn closed(kind: Kind) -> Kind
-    ensures { result ≡ closed_kind kind }
-{
-    match kind {
-        Kind::Open => Kind::Closed,
-        Kind::Free => Kind::Free,
-        Kind::Closed => Kind::Closed,
-    }
-}
-
-/// The entry at an index; a blank one where there is none.
-fn entry(entries: &[Region], g: u8) -> Region
-    ensures { result ≡ region_at entries.now g }
-{
-    let g = g as usize;
-    if g < entries.len() { entries[g] } else { BLANK }
-}
-
-/// Puts an entry at an index, if there is one.
-fn replace(entries: &mut [Region], g: u8, region: Region)
-    ensures { entries.new ≡ slice_set entries.old g region }
-{
-    let g = g as usize;
-    if g < entries.len() {
-        entries[g] = region;
     }
 }

@@ -1,20 +1,16 @@
-use Rattle.std.proofs.Common.{sym, ◌∙◌, arith}
-use Rattle.bitset.proofs.Set.{tally_le, tally-none}
+use Rattle.std.proofs.Common.{◌∙◌, arith, rules}
+use Rattle.std.specs.List.{range_with_len}
+use Rattle.std.proofs.lemmas.Iterator.{YieldsList-from_range}
+use Rattle.std.proofs.lemmas.Iterator.Consumers.{YieldsList-from_filter, count_from_yields_List}
+use Rattle.std.proofs.lemmas.List.Sums.{length-filter}
 use Rattle.tables.specs.Regions.{is_free_at}
-use Rattle.tables.proofs.Finding.{counted_yes, counted_no}
+use Rattle.tables.proofs.Finding.{count-range}
 use Rattle.tables.proofs.regions.Regions.count_free.Goals as goal
-use Rattle.tables.proofs.regions.Regions.count_free.Goals.{then-is_free, else-is_free}
 
-pub loop-g-init : goal.loop-g-init
-loop-g-init c = tally-none (is_free_at c.args.self.now.entries) 0 0 (omega arith)
-
-pub overflow_add-n : goal.overflow_add-n
-overflow_add-n c = omega (arith, tally_le (is_free_at c.args.self.now.entries) 0 c.loop-g.g)
-
-pub loop-g-preserved : goal.loop-g-preserved
-loop-g-preserved c =
+pub returns : goal.returns
+returns c =
     let f = is_free_at c.args.self.now.entries in
-    elim c.if-is_free.branch [
-      | then-is_free w ↦ omega (arith, counted_yes f c.loop-g.g (sym c.is_free.ensures ∙ w.if-is_free.true))
-      | else-is_free w ↦ omega (arith, counted_no f c.loop-g.g (sym c.is_free.ensures ∙ w.if-is_free.false))
-    ]
+    let n = c.args.self.now.count in
+    count_from_yields_List c.filter.result c.count.result c.count.ensures.ran
+    (YieldsList-from_filter _ f (YieldsList-from_range 0 n n (search rules) (omega arith)) c.filter.ensures.closure (λ x b q k. search rules))
+    ∙ length-filter f (range_with_len 0 n) ∙ count-range f 0 n
