@@ -7,6 +7,8 @@ use store::Store;
 use tables::{Cards, Marks, Regions};
 
 /// The words of a heap, its tables and its roots.
+///
+/// Contracts read it by `view`. It has no `impl Model`, whose value may hold no function, as the sets of a state are.
 #[derive(Drop)]
 pub struct Memory<S: Store, L: Layout> {
     /// The words.

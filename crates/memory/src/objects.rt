@@ -7,7 +7,7 @@ use crate::memory::Memory;
 use crate::phase::Phase;
 use bitset::BitSet;
 use layout::Layout;
-use model::Refusal;
+use model::{Refusal, root_index};
 use std::marker::PhantomData;
 use store::Store;
 use tables::{Cards, Marks, Regions};
@@ -17,8 +17,9 @@ fn write_zeros<S: Store>(store: &mut S, place: u32, count: u32)
     ensures words { S.words store.new ≡ zeroed (S.words store.old) (place + 1) count }
     ensures spare { S.spare store.new ≡ S.spare store.old }
 {
-    for k in 0..count {
-        let _ = store.write(place as usize + 1 + k as usize, 0);
+    let start = place as usize + 1;
+    for index in start..start + count as usize {
+        let _ = store.write(index, 0);
     }
 }
 
@@ -74,13 +75,10 @@ impl<S: Store, L: Layout> Memory<S, L> {
     fn mark_new(&mut self, place: u32, size: u32)
         ensures { view S.words S.spare self.new ≡ born self.old.phase (view S.words S.spare self.old) place size }
     {
-        match self.phase {
-            Phase::Idle => {}
-            Phase::Marking | Phase::Marked => {
-                let region = self.regions.last;
-                self.marks.mark(place, size);
-                self.regions.add_live(region, size);
-            }
+        if self.phase != Phase::Idle {
+            let region = self.regions.last;
+            self.marks.mark(place, size);
+            self.regions.add_live(region, size);
         }
     }
 
@@ -88,19 +86,15 @@ impl<S: Store, L: Layout> Memory<S, L> {
     pub fn new(&mut self, root: u32, header: u32) -> Result<(), Refusal>
         ensures { (result, view S.words S.spare self.new) ≡ new_object L.shape (view S.words S.spare self.old) root header }
     {
-        if root >= 64 {
-            return Err(Refusal::RootAbove63);
-        }
+        let root = root_index(root)?;
         if !L::legal(header) {
             return Err(Refusal::IllegalHeader);
         }
         let size = L::size(header);
-        let Some(place) = self.regions.take(size) else {
-            return Err(Refusal::NoSpace);
-        };
+        let place = self.regions.take(size).ok_or(Refusal::NoSpace)?;
         self.lay(place, header, size);
         self.mark_new(place, size);
-        self.roots[root as usize] = Some(place);
+        self.roots[root] = Some(place);
         Ok(())
     }
 }
