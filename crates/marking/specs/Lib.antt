@@ -1,3 +1,4 @@
 pub mod Admission
+pub mod Referents
 pub mod Scanning
 pub mod Refining

@@ -20,6 +20,7 @@ pub enum Step {
 pub fn admit(phase: Phase, step: Step) -> Result<(), Refusal>
     ensures { result ≡ admitted phase step }
 {
+    // The rule is this table: for each phase and each step whether the step is admitted.
     match (phase, step) {
         (Phase::Idle, Step::Begin) => Ok(()),
         (Phase::Idle, Step::Mark) => Err(Refusal::NotMarking),

@@ -4,6 +4,7 @@
 #![tactic(auto)]
 
 mod admission;
+mod referents;
 mod refining;
 mod scanning;
 

@@ -1,8 +1,9 @@
+use Rattle.std.proofs.Common.{arith}
 use Rattle.marking.proofs.Walks.{objects-none, objects_more}
 use Rattle.marking.proofs.refining.enter_objects.Goals as goal
 
-pub loop-k-init : goal.loop-k-init
-loop-k-init g c = objects-none _ _ _
+pub loop-place-init : goal.loop-place-init
+loop-place-init g c = objects-none _ _ _ _
 
-pub loop-k-preserved : goal.loop-k-preserved
-loop-k-preserved g c = objects_more _ _ _ _ _ _ c.loop-k.invariant c.enter_object.ensures
+pub loop-place-preserved : goal.loop-place-preserved
+loop-place-preserved g c = objects_more _ _ _ _ _ _ (omega arith) c.loop-place.invariant c.enter_object.ensures
