@@ -1,16 +1,15 @@
 -- Each fault comes exactly on its condition: both the reader and the condition go along the bytes
 -- with the top bit set, and part at the first byte without it or at the fifth.
-use Rattle.std.proofs.Common.{◌≡◌, ℕ, zero, suc, ◌-◌, ◌<◌, ◌≤◌, ◌&&◌, eqb, ltb, ◌⊎◌, List, [], ◌∷◌, length, get_or, drop, Some, None, Ok, Err, Option, Result, Bor, unwrap_or, sym, refl, ap, ◌∙◌, subst, inl, inr, ⊎_elim, arith}
+use Rattle.std.proofs.Common.{◌≡◌, ℕ, zero, suc, ◌+◌, ◌-◌, ◌*◌, ◌<◌, ◌≤◌, ◌&&◌, eqb, ltb, ◌⊎◌, List, [], ◌∷◌, length, get_or, take, drop, Ok, Err, Result, sym, refl, ap, ◌∙◌, subst, ap₂, inl, inr, ⊎_elim, add-zero, arith, length-drop, get_or-drop}
 use Rattle.std.proofs.lemmas.List.{take_rest, drop_all}
 use Rattle.std.proofs.lemmas.Bool.Decides.{nat_tests}
 use Rattle.std.proofs.lemmas.Bool.{cond_both}
-use Rattle.std.specs.Slice.{IsGetRangeResult}
 use Rattle.leb128.specs.declared.Fault.{Fault}
 use Rattle.leb128.specs.declared.Fault.TheVariants.{EndsEarly, NotShortest, TooWide}
 use Rattle.leb128.specs.declared.Number.{Number}
 use Rattle.leb128.specs.Number.{Decoded, joined, follow, decode, from, read_at}
 use Rattle.leb128.specs.Laws.{Continue, Fails, FaultsExactly, Reading}
-use Rattle.leb128.proofs.Steps.{Bytes, follow_zero, follow_wide, follow_more, decode_more}
+use Rattle.leb128.proofs.Steps.{Bytes, follow_zero, follow_wide, follow_more, decode-one, decode_two, decode_more, decode-follow}
 use Rattle.leb128.proofs.Laws.{reads_back, canonical}
 
 -- the condition of a fault among the bytes after the first, of which `left` may follow the next
@@ -128,14 +127,36 @@ exact bs at f = (
   λ s. ap (from at) (decode_fails (drop at bs) f s),
 )
 
--- what the code has: the rest of the bytes from the position on, none past the end, and what it begins with
-pub read_rest : (bs : List ℕ) (at : ℕ) (got : Option (Bor (List ℕ))) (none rest : Bor (List ℕ)) (r : Decoded) → IsGetRangeResult bs at (length bs) got →
-    none.now ≡ [] → rest ≡ unwrap_or got none → r ≡ decode rest.now → from at r ≡ read_at bs at
+-- what the code has: nothing at or past the end, and else what the bytes from the position on begin with
+pub read_past : (bs : List ℕ) (at : ℕ) → length bs ≤ at → Err EndsEarly ≡ read_at bs at
 unfolding read_at
-read_rest bs at (Some found) none rest r g n e d = ap (from at) (d ∙ ap (λ x. decode x.now) e ∙ ap decode (g.0.2 ∙ take_rest bs at))
-read_rest bs at None none rest r g n e d =
-    let past : length bs < at = ⊎_elim (λ a. a) (λ a. absurd (omega (arith, a))) g.0 in
-    ap (from at) (d ∙ ap (λ x. decode x.now) e ∙ ap decode (n ∙ sym (drop_all at bs (omega arith))))
+read_past bs at h = rw (drop_all at bs h)
+
+first_at : (bs : List ℕ) (at : ℕ) → at < length bs → (1 ≤ length (drop at bs)) × (get_or (drop at bs) 0 0 ≡ get_or bs at 0)
+first_at bs at h = (simp length-drop (omega arith), get_or-drop at bs 0 0 ∙ ap (λ i. get_or bs i 0) (add-zero at))
+
+pub read_one : (bs : List ℕ) (at : ℕ) → at < length bs → get_or bs at 0 < 128 → Ok (record { value = get_or bs at 0; next = at + 1 }) ≡ read_at bs at
+unfolding read_at
+read_one bs at h l =
+    let f = first_at bs at h in
+    let e : Ok (get_or bs at 0, 1) ≡ decode (drop at bs) = subst (λ v. Ok (v, 1) ≡ decode (drop at bs)) f.1 (decode-one (drop at bs) f.0 (omega (arith, f.1))) in
+    ap (from at) e
+
+pub read_two : (bs : List ℕ) (at : ℕ) → at + 1 < length bs → 128 ≤ get_or bs at 0 → 0 < get_or bs (at + 1) 0 → get_or bs (at + 1) 0 < 128 →
+    Ok (record { value = get_or bs at 0 - 128 + 128 * get_or bs (at + 1) 0; next = at + 2 }) ≡ read_at bs at
+unfolding read_at
+read_two bs at h b p l =
+    let f = (first_at bs at (omega arith)).1 in
+    let s : get_or (drop at bs) 1 0 ≡ get_or bs (at + 1) 0 = get_or-drop at bs 1 0 in
+    let two : Ok (get_or (drop at bs) 0 0 - 128 + 128 * get_or (drop at bs) 1 0, 2) ≡ decode (drop at bs) =
+    decode_two (drop at bs) (simp length-drop (omega arith)) (omega arith) (omega arith) (omega arith) in
+    ap (from at) (ap₂ (λ x y. Ok (x - 128 + 128 * y, 2)) (sym f) (sym s) ∙ two)
+
+pub read_several : (bs : List ℕ) (at : ℕ) (r : Decoded) → at < length bs → 128 ≤ get_or bs at 0 → r ≡ follow (take (length bs - at) (drop at bs)) 4 → from at r ≡ read_at bs at
+unfolding read_at
+read_several bs at r h b e =
+    let f = first_at bs at h in
+    ap (from at) (e ∙ ap (λ xs. follow xs 4) (take_rest bs at) ∙ decode-follow (drop at bs) f.0 (omega (arith, f.1)))
 
 -- all the laws, of whatever is `read_at`
 pub reading : (bs : List ℕ) (at : ℕ) (r : Result Number Fault) → Bytes bs → r ≡ read_at bs at → Reading bs at r

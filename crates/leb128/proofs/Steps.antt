@@ -4,7 +4,7 @@ use Rattle.std.proofs.Common.{◌≡◌, ℕ, zero, suc, ◌+◌, ◌-◌, ◌*�
 use Rattle.std.proofs.lemmas.List.{take_rest}
 use Rattle.std.proofs.lemmas.Bool.Decides.{nat_tests}
 use Rattle.std.proofs.lemmas.Bool.{cond_both}
-use Rattle.leb128.specs.declared.Fault.TheVariants.{EndsEarly, NotShortest, TooWide}
+use Rattle.leb128.specs.declared.Fault.TheVariants.{NotShortest, TooWide}
 use Rattle.leb128.specs.Number.{Decoded, joined, follow, decode, groups, limit}
 
 -- every element is a byte
@@ -48,10 +48,6 @@ pub decode_more : (bs : List ℕ) → 1 ≤ length bs → 128 ≤ get_or bs 0 0 
     decode bs ≡ joined (get_or bs 0 0) (follow (drop 1 bs) 3)
 decode_more [] h b = absurd (omega arith)
 decode_more (x ∷ bs) h b = grind (arith, nat_tests)
-
-pub decode-none : (bs : List ℕ) → length bs < 1 → Err EndsEarly ≡ decode bs
-decode-none [] h = refl
-decode-none (b ∷ bs) h = absurd (omega arith)
 
 pub decode-one : (bs : List ℕ) → 1 ≤ length bs → get_or bs 0 0 < 128 → Ok (get_or bs 0 0, 1) ≡ decode bs
 decode-one [] h l = absurd (omega arith)

@@ -61,19 +61,22 @@ pub fn read(bytes: &[u8], at: usize) -> Result<Number, Fault>
     ensures value { result ≡ read_at bytes.now at }
     ensures laws { Reading bytes.now at result }
 {
-    let rest = bytes.get(at..).unwrap_or(&[]);
-    match rest {
-        [] => Err(Fault::EndsEarly),
-        [byte, ..] if *byte < 128 => Ok(Number {
-            value: u32::from(*byte),
+    let Some(&byte) = bytes.get(at) else {
+        return Err(Fault::EndsEarly);
+    };
+    if byte < 128 {
+        return Ok(Number {
+            value: u32::from(byte),
             next: at + 1,
-        }),
-        [byte, second, ..] if 0 < *second && *second < 128 => Ok(Number {
-            value: u32::from(*byte - 128) + 128 * u32::from(*second),
+        });
+    }
+    match bytes.get(at + 1) {
+        Some(&second) if 0 < second && second < 128 => Ok(Number {
+            value: u32::from(byte - 128) + 128 * u32::from(second),
             next: at + 2,
         }),
         _ => {
-            let (value, length) = read_following(rest, 4)?;
+            let (value, length) = read_following(&bytes[at..], 4)?;
             Ok(Number {
                 value,
                 next: at + length,
