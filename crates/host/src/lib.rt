@@ -23,6 +23,6 @@ pub extern "C" fn topology_check(bytes: &[u8]) -> u64
     }
     match image::check::<Cabling>(bytes) {
         Ok(_) => 0,
-        Err(refusal) => 256 * refusal.place as u64 + u64::from(refusal.fault.refusal()),
+        Err(refusal) => 256 * refusal.place as u64 + u64::from(u32::from(refusal.fault)),
     }
 }

@@ -1,3 +1,4 @@
+mod Mapped
 mod Numbers
 mod Runs
 mod Stages

@@ -1,6 +1,6 @@
 -- The definitions of the reader, one way through each: what they give once it is known what their
 -- parts gave. The code takes the same ways, so each lemma answers for one exit of it.
-use Rattle.std.proofs.Common.{◌≡◌, ℕ, zero, suc, ◌+◌, ◌-◌, ◌<◌, ◌≤◌, true, false, List, [], ◌∷◌, ◌++◌, length, IfOk, Ok, Err, fold, Result, sym, refl, ap, ◌∙◌, ap₂, append_assoc, arith}
+use Rattle.std.proofs.Common.{◌≡◌, ℕ, suc, ◌+◌, ◌-◌, ◌<◌, ◌≤◌, true, false, List, [], ◌∷◌, ◌++◌, length, Ok, Err, fold, Result, sym, refl, ap, ◌∙◌, subst, ap₂, append_assoc, arith}
 use Rattle.std.proofs.lemmas.Bool.{eq-eqb, le-leb, lt-leb, lt-ltb, le-ltb}
 use Rattle.std.proofs.lemmas.List.Sums.{fold_push}
 use Rattle.layout.specs.Shape.{Shape}
@@ -9,10 +9,13 @@ use Rattle.image.specs.declared.refusals.Fault.{Fault}
 use Rattle.image.specs.declared.refusals.Fault.TheVariants as fault
 use Rattle.image.specs.declared.refusals.Refusal.{Refusal}
 use Rattle.image.specs.declared.strict.Role.{Role}
+use Rattle.image.specs.declared.source.Reader.{Reader}
+use Rattle.image.specs.declared.strict.Pass.{Pass}
 use Rattle.image.specs.Content.{Object, Content, words, headers}
+use Rattle.image.specs.Pass.{state_of, at_place, at_state}
 use Rattle.image.specs.Steps.{prefixed, collect}
 use Rattle.image.specs.declared.strict.Summary.{Summary}
-use Rattle.image.specs.Stage.{Follows, summary_of, summarised, headers_of}
+use Rattle.image.specs.Stage.{Follows, summary_of, summarised}
 use Rattle.image.specs.Read.{refuse, number_at, judged, State, value_at, root_role, body_role, roots_at, start_of, sign_at, counts_at, body_at, object_at, objects_at, read}
 
 module _ (bs : List ℕ) (n k : ℕ) (r : Role) (m at : ℕ) where
@@ -65,17 +68,38 @@ module _ (S : Shape) (bs : List ℕ) (n k m at : ℕ) where
         unfolding object_at
         object_ok b e = let t = le-leb k m due in rw (t, read, legal, e)
 
--- the same over the bytes cs, which are bs
-pub object_over : (S : Shape) (bs cs : List ℕ) (n k : ℕ) (s : State) → cs ≡ bs → object_at S bs n k s ≡ object_at S cs n k s
-object_over S bs cs n k s same = ap (λ xs. object_at S xs n k s) (sym same)
+-- a pass that is p in the state s: what its next step gives is what the definition gives there, and it is p in another state
+module _ (p q : Pass) (s : State) (here : q ≡ at_state p s) where
+  pub value_step : (k : ℕ) (r want : Role) → r ≡ want → (v : ℕ × State) (t : Pass) → value_at q.reader.bytes.now q.objects k r (state_of q) ≡ Ok v → t ≡ at_state q v.1 →
+      (value_at p.reader.bytes.now p.objects k want s ≡ Ok v) × (t ≡ at_state p v.1)
+  value_step k r want is v t e f =
+      (subst (λ x. value_at p.reader.bytes.now p.objects k x s ≡ Ok v) is (subst (λ x. value_at x.reader.bytes.now x.objects k r (state_of x) ≡ Ok v) here e), f ∙ ap (λ x. at_state x v.1) here)
 
--- the same for a reader over the bytes cs, which are bs, with a role that is the one wanted
-module _ (bs cs : List ℕ) (n k : ℕ) (r want : Role) (s : State) (same : cs ≡ bs) (is : r ≡ want) where
-  pub value_step : (v : ℕ × State) (t : State) → value_at cs n k r s ≡ Ok v → v.1 ≡ t → value_at bs n k want s ≡ Ok (v.0, t)
-  value_step v t e at = rw (← same, ← is) (e ∙ ap (λ x. Ok (v.0, x)) at)
+  pub object_step_on : (S : Shape) (k : ℕ) (o : Object × State) (t : Pass) → object_at S q.reader.bytes.now q.objects k (state_of q) ≡ Ok o → t ≡ at_state q o.1 →
+      (object_at S p.reader.bytes.now p.objects k s ≡ Ok o) × (t ≡ at_state p o.1)
+  object_step_on S k o t e f = (subst (λ x. object_at S x.reader.bytes.now x.objects k (state_of x) ≡ Ok o) here e, f ∙ ap (λ x. at_state x o.1) here)
 
-  pub value_stop : (f : Refusal) → value_at cs n k r s ≡ Err f → value_at bs n k want s ≡ Err f
-  value_stop f e = rw (← same, ← is) e
+-- a reader over the bytes of the image at a place, and one that was moved from there
+abbrev pub Reads : List ℕ → ℕ → Reader → Type 0
+Reads bs at r = (r.bytes.now ≡ bs) × (r.position ≡ at)
+
+module _ (bs : List ℕ) (at : ℕ) (r : Reader) (here : Reads bs at r) where
+  pub moved : (t : Reader) (next : ℕ) → t ≡ at_place r next → Reads bs next t
+  moved t next e = (ap (λ x. x.bytes.now) e ∙ here.0, ap (λ x. x.position) e)
+
+  pub sign_here : (S : Shape) (x : Result ℕ Refusal) → sign_at S r.bytes.now r.position ≡ x → sign_at S bs at ≡ x
+  sign_here S x e = rw (← here.0, ← here.1) e
+
+  pub counts_here : (x : Result ((ℕ × ℕ) × ℕ) Refusal) → counts_at r.bytes.now r.position ≡ x → counts_at bs at ≡ x
+  counts_here x e = rw (← here.0, ← here.1) e
+
+  -- a pass begins with such a reader and no reference
+  pub roots_here : (n c : ℕ) (x : Result (List ℕ × State) Refusal) → roots_at r.bytes.now n c (0, r.position) ≡ x → roots_at bs n c (0, at) ≡ x
+  roots_here n c x e = rw (← here.0, ← here.1) e
+
+  pub objects_here : (S : Shape) (n g : ℕ) (p : Pass) (s : State) → p ≡ at_state (record { reader = r; objects = n; greatest = g }) s →
+      (x : Result (List Object × State) Refusal) → objects_at S p.reader.bytes.now p.objects (state_of p) ≡ x → objects_at S bs n s ≡ x
+  objects_here S n g p s is x e = rw (← here.0) (subst (λ q. objects_at S q.reader.bytes.now q.objects (state_of q) ≡ x) is e)
 
 -- the whole, stage after stage
 module _ (S : Shape) (bs : List ℕ) where
@@ -139,17 +163,6 @@ module _ {A S E : Type 0} (step : ℕ → S → Result (A × S) E) where
       let x : collect step i c s ≡ prefixed a (collect step (i + 1) count t) = rw (n, e) in
       record { goes = go.goes ∙ ap (after front) x ∙ after-prefixed front a (collect step (i + 1) count t) }
 
-  pub going_fault : (whole : Result (List A × S) E) (front : List A) (i c : ℕ) (s : S) (f : E) → 0 < c →
-      step i s ≡ Err f → Going step whole front i c s → whole ≡ Err f
-  going_fault whole front i zero s f h e go = absurd (omega arith)
-  going_fault whole front i (suc c) s f h e go =
-      let x : collect step i (suc c) s ≡ Err f = rw e in
-      go.goes ∙ ap (after front) x
-
-  pub going_end : (whole : Result (List A × S) E) (front : List A) (i c : ℕ) (s : S) → c ≡ 0 → Going step whole front i c s →
-      whole ≡ Ok (front ++ [], s)
-  going_end whole front i c s z go = go.goes ∙ ap (λ n. after front (collect step i n s)) z
-
 -- the three loops of the reader
 module _ (bs : List ℕ) (n : ℕ) where
   abbrev pub root_step : ℕ → ℕ → State → Result (ℕ × State) Refusal
@@ -194,14 +207,9 @@ counted_step S next start now then front w v h o c e total seen =
       seen = seen ∙ ap₂ next c.seen (sym e) ∙ sym (fold_push next start (headers front) o.header) ∙ ap (fold next start) (sym (headers_push front o));
     }
 
--- a check that goes as `read` tells its summary, and a visitor sees the headers of its content
+-- a check that goes as `read` tells its summary
 module _ (S : Shape) where
   pub follows_summarised : (P : Summary → Content → Type 0) (r : Result Summary Refusal) (x : Result Content Refusal) →
       Follows r x (λ s c. (s ≡ summary_of S c) × P s c) → r ≡ summarised S x
   follows_summarised P (Ok s) x f = ap Ok f.2.0 ∙ ap (summarised S) (sym f.1)
   follows_summarised P (Err e) x f = ap (summarised S) (sym f)
-
-  pub follows_told : {V : Type 0} (next : V → ℕ → V) (start end : V) (r : Result Summary Refusal) (x : Result Content Refusal) →
-      Follows r x (λ s c. (s ≡ summary_of S c) × (end ≡ fold next start (headers c.objects))) → IfOk r (λ _. end ≡ fold next start (headers_of x))
-  follows_told next start end (Ok s) x f = f.2.1 ∙ ap (λ y. fold next start (headers_of y)) (sym f.1)
-  follows_told next start end (Err e) x f = tt

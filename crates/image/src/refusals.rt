@@ -23,13 +23,13 @@ pub enum Fault {
     LeftOver,
 }
 
-impl Fault {
-    /// The number by which the fault is reported.
-    pub fn refusal(self) -> u32
-        ensures { result ≡ refusal_of self }
-    {
-        match self {
-            Fault::Number(fault) => fault.refusal(),
+/// The number by which the fault is reported.
+impl From<Fault> for u32 {
+    ghost from_gives = { λ fault number. number ≡ refusal_of fault };
+
+    fn from(fault: Fault) -> u32 {
+        match fault {
+            Fault::Number(fault) => u32::from(fault),
             Fault::Start => 13,
             Fault::Sign => 14,
             Fault::Roots => 15,
@@ -50,4 +50,17 @@ pub struct Refusal {
     pub place: usize,
     /// The number of the object that was begun or due there, or 0 outside objects.
     pub object: u32,
+}
+
+impl Fault {
+    /// A refusal for this fault, which is reported at `place` in `object`, or in 0 outside objects.
+    pub(crate) fn at(self, place: usize, object: u32) -> Refusal
+        ensures { result ≡ record { fault = self; place = place; object = object } }
+    {
+        Refusal {
+            fault: self,
+            place,
+            object,
+        }
+    }
 }

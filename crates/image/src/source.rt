@@ -28,20 +28,9 @@ impl<'a> Reader<'a> {
         ensures { Follows result (start_of bytes.now) (λ reader at. (reader.bytes.now ≡ bytes.now) × (reader.position ≡ at)) }
     {
         match bytes {
-            [0x43, 0x4D, rest @ ..] => Ok(Reader {
-                bytes,
-                position: bytes.len() - rest.len(),
-            }),
-            [_, _, ..] => Err(Refusal {
-                fault: Fault::Start,
-                place: 0,
-                object: 0,
-            }),
-            _ => Err(Refusal {
-                fault: Fault::Number(leb128::Fault::EndsEarly),
-                place: bytes.len(),
-                object: 0,
-            }),
+            [0x43, 0x4D, ..] => Ok(Reader { bytes, position: 2 }),
+            [_, _, ..] => Err(Fault::Start.at(0, 0)),
+            _ => Err(Fault::Number(leb128::Fault::EndsEarly).at(bytes.len(), 0)),
         }
     }
 
@@ -55,20 +44,14 @@ impl<'a> Reader<'a> {
     /// The number at the reader's position, which moves past it. A fault leaves the position; it is
     /// reported in `object`, the number of the object that is read, or 0.
     pub fn number(&mut self, object: u32) -> Result<u32, Refusal>
-        ensures value { Follows result (number_at self.old.bytes.now object self.old.position) (λ v p. (p.value ≡ v) × (p.next ≡ self.new.position)) }
-        ensures same { self.new.bytes.now ≡ self.old.bytes.now }
-        ensures stays { OnErr result (self.new.position ≡ self.old.position) }
+        ensures value { Follows result (number_at self.old.bytes.now object self.old.position) (λ v p. (p.value ≡ v) × (self.new ≡ record self.old { position = p.next })) }
+        ensures stays { OnErr result (self.new ≡ self.old) }
     {
-        match leb128::read(self.bytes, self.position) {
-            Ok(number) => {
-                self.position = number.next;
-                Ok(number.value)
-            }
-            Err(fault) => Err(Refusal {
-                fault: Fault::Number(fault),
-                place: fault_place(fault, self.bytes, self.position),
-                object,
-            }),
-        }
+        let read = leb128::read(self.bytes, self.position);
+        let number = read.map_err(|fault| {
+            Fault::Number(fault).at(fault_place(fault, self.bytes, self.position), object)
+        })?;
+        self.position = number.next;
+        Ok(number.value)
     }
 }

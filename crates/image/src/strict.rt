@@ -1,6 +1,7 @@
 //! The strict check of a whole image.
 ghost use Rattle.std.specs.Prelude.{◌≡◌, ℕ, ◌+◌, ◌*◌, ◌<◌, ◌≤◌, fold, OnOk};
 ghost use Rattle.image.specs.Content.{headers, words};
+ghost use Rattle.image.specs.Pass.{at_place, at_state, state_of};
 ghost use Rattle.image.specs.Read.{body_at, body_role, counts_at, judged, object_at, objects_at, read, root_role, roots_at, sign_at, value_at};
 ghost use Rattle.image.specs.Numbering.{Exact};
 ghost use Rattle.image.specs.Stage.{Follows, WithinBytes, headers_of, summarised, summary_of};
@@ -21,6 +22,8 @@ pub struct Summary {
 }
 
 /// What is told of each object of an image, in order.
+//
+// A trait and no closure: what the calls of a closure come to is told by a run of them, and what those of a visitor come to by `next`.
 pub trait Visitor {
     ghost next: { Self → ℕ → Self };
 
@@ -63,29 +66,6 @@ fn judge(role: Role, objects: u32, greatest: u32, value: u32) -> Result<u32, Fau
     }
 }
 
-// One number in its role: the greatest reference so far after it.
-fn value(
-    reader: &mut Reader,
-    role: Role,
-    objects: u32,
-    greatest: u32,
-    object: u32,
-) -> Result<u32, Refusal>
-    ensures value { Follows result (value_at reader.old.bytes.now objects object role (greatest, reader.old.position)) (λ m v. v.1 ≡ (m, reader.new.position)) }
-    ensures same { reader.new.bytes.now ≡ reader.old.bytes.now }
-{
-    let place = reader.position();
-    let number = reader.number(object)?;
-    match judge(role, objects, greatest, number) {
-        Ok(greatest) => Ok(greatest),
-        Err(fault) => Err(Refusal {
-            fault,
-            place,
-            object,
-        }),
-    }
-}
-
 // The role of root `i` of `count`.
 fn root_role(count: u32, i: u32) -> Role
     requires { i < count }
@@ -109,158 +89,123 @@ fn body_role<L: Layout>(header: u32, position: u32) -> Role
     }
 }
 
-// The roots: the greatest reference so far after them.
-fn roots(reader: &mut Reader, objects: u32, count: u32) -> Result<u32, Refusal>
-    ensures value { Follows result (roots_at reader.old.bytes.now objects count (0, reader.old.position)) (λ m v. v.1 ≡ (m, reader.new.position)) }
-    ensures same { reader.new.bytes.now ≡ reader.old.bytes.now }
-{
-    let mut greatest = 0;
-    for i in 0..count {
-        match value(reader, root_role(count, i), objects, greatest, 0) {
-            Ok(next) => greatest = next,
-            Err(refusal) => return Err(refusal),
-        }
-    }
-    Ok(greatest)
-}
-
-// The words of an object after its header: the greatest reference so far after them.
-fn body<L: Layout>(
-    reader: &mut Reader,
-    header: u32,
+// A pass over the numbers of an image after its counts.
+#[derive(Drop)]
+struct Pass<'a> {
+    reader: Reader<'a>,
+    // The object count.
     objects: u32,
+    // The greatest reference so far.
     greatest: u32,
-    object: u32,
-) -> Result<u32, Refusal>
-    ensures value { Follows result (body_at L.shape reader.old.bytes.now objects object header (greatest, reader.old.position)) (λ m v. v.1 ≡ (m, reader.new.position)) }
-    ensures same { reader.new.bytes.now ≡ reader.old.bytes.now }
-{
-    let mut greatest = greatest;
-    for position in 1..L::size(header) {
-        match value(
-            reader,
-            body_role::<L>(header, position),
-            objects,
-            greatest,
-            object,
-        ) {
-            Ok(next) => greatest = next,
-            Err(refusal) => return Err(refusal),
-        }
-    }
-    Ok(greatest)
 }
 
-// The object `number`: its header, and the greatest reference so far after it.
-fn object<L: Layout>(
-    reader: &mut Reader,
-    objects: u32,
-    greatest: u32,
-    number: u32,
-) -> Result<(u32, u32), Refusal>
-    ensures value { Follows result (object_at L.shape reader.old.bytes.now objects number (greatest, reader.old.position)) (λ p o. (o.0.header ≡ p.0) × (o.1 ≡ (p.1, reader.new.position))) }
-    ensures same { reader.new.bytes.now ≡ reader.old.bytes.now }
-{
-    let place = reader.position();
-    if number > greatest {
-        return Err(Refusal {
-            fault: Fault::NotReferredTo,
-            place,
-            object: number,
-        });
+impl Pass<'_> {
+    // One number in its role, in the object `object` or outside objects in 0.
+    fn value(&mut self, role: Role, object: u32) -> Result<(), Refusal>
+        ensures { Follows result (value_at self.old.reader.bytes.now self.old.objects object role (state_of self.old)) (λ _ v. self.new ≡ at_state self.old v.1) }
+    {
+        let place = self.reader.position();
+        let value = self.reader.number(object)?;
+        let judged = judge(role, self.objects, self.greatest, value);
+        self.greatest = judged.map_err(|fault| fault.at(place, object))?;
+        Ok(())
     }
-    let header = reader.number(number)?;
-    if !L::legal(header) {
-        return Err(Refusal {
-            fault: Fault::Header,
-            place,
-            object: number,
-        });
-    }
-    let greatest = body::<L>(reader, header, objects, greatest, number)?;
-    Ok((header, greatest))
-}
 
-// The objects, each told to the visitor: the words that they take.
-fn objects<L: Layout, V: Visitor>(
-    reader: &mut Reader,
-    visitor: &mut V,
-    count: u32,
-    greatest: u32,
-) -> Result<u64, Refusal>
-    ensures value { Follows result (objects_at L.Layout.shape reader.old.bytes.now count (greatest, reader.old.position)) (λ w os. (w ≡ words L.Layout.shape os.0) × (os.1.1 ≡ reader.new.position) × (visitor.new ≡ fold V.Visitor.next visitor.old (headers os.0))) }
-    ensures same { reader.new.bytes.now ≡ reader.old.bytes.now }
-{
-    let mut greatest = greatest;
-    let mut words = 0;
-    for i in 0..count {
-        match object::<L>(reader, count, greatest, i + 1) {
-            Ok((header, next)) => {
-                greatest = next;
-                words += u64::from(L::size(header));
-                visitor.object(header);
-            }
-            Err(refusal) => return Err(refusal),
+    // The roots.
+    fn roots(&mut self, count: u32) -> Result<(), Refusal>
+        ensures { Follows result (roots_at self.old.reader.bytes.now self.old.objects count (state_of self.old)) (λ _ v. self.new ≡ at_state self.old v.1) }
+    {
+        for i in 0..count {
+            self.value(root_role(count, i), 0)?;
         }
+        Ok(())
     }
-    Ok(words)
+
+    // The words of an object after its header.
+    fn body<L: Layout>(&mut self, header: u32, object: u32) -> Result<(), Refusal>
+        ensures { Follows result (body_at L.shape self.old.reader.bytes.now self.old.objects object header (state_of self.old)) (λ _ v. self.new ≡ at_state self.old v.1) }
+    {
+        for position in 1..L::size(header) {
+            self.value(body_role::<L>(header, position), object)?;
+        }
+        Ok(())
+    }
+
+    // The object `number`, which has to have been referred to: its header.
+    fn object<L: Layout>(&mut self, number: u32) -> Result<u32, Refusal>
+        ensures { Follows result (object_at L.shape self.old.reader.bytes.now self.old.objects number (state_of self.old)) (λ header o. (o.0.header ≡ header) × (self.new ≡ at_state self.old o.1)) }
+    {
+        let place = self.reader.position();
+        if number > self.greatest {
+            return Err(Fault::NotReferredTo.at(place, number));
+        }
+        let header = self.reader.number(number)?;
+        if !L::legal(header) {
+            return Err(Fault::Header.at(place, number));
+        }
+        self.body::<L>(header, number)?;
+        Ok(header)
+    }
+
+    // The objects, each told to the visitor: the words that they take.
+    fn objects<L: Layout, V: Visitor>(&mut self, visitor: &mut V) -> Result<u64, Refusal>
+        ensures { Follows result (objects_at L.shape self.old.reader.bytes.now self.old.objects (state_of self.old)) (λ w os. (w ≡ words L.shape os.0) × (self.new ≡ at_state self.old os.1) × (visitor.new ≡ fold V.next visitor.old (headers os.0))) }
+    {
+        let mut words = 0;
+        for i in 0..self.objects {
+            let header = self.object::<L>(i + 1)?;
+            words += u64::from(L::size(header));
+            visitor.object(header);
+        }
+        Ok(words)
+    }
 }
 
 // The sign of the layout.
 fn sign<L: Layout>(reader: &mut Reader) -> Result<(), Refusal>
-    ensures value { Follows result (sign_at L.shape reader.old.bytes.now reader.old.position) (λ _ at. at ≡ reader.new.position) }
-    ensures same { reader.new.bytes.now ≡ reader.old.bytes.now }
+    ensures { Follows result (sign_at L.shape reader.old.bytes.now reader.old.position) (λ _ at. reader.new ≡ at_place reader.old at) }
 {
     let place = reader.position();
-    let sign = reader.number(0)?;
-    if sign != L::sign() {
-        return Err(Refusal {
-            fault: Fault::Sign,
-            place,
-            object: 0,
-        });
+    if reader.number(0)? != L::IMAGE_SIGN {
+        return Err(Fault::Sign.at(place, 0));
     }
     Ok(())
 }
 
 // The object count and the root count.
 fn counts(reader: &mut Reader) -> Result<(u32, u32), Refusal>
-    ensures value { Follows result (counts_at reader.old.bytes.now reader.old.position) (λ p c. c ≡ ((p.0, p.1), reader.new.position)) }
-    ensures same { reader.new.bytes.now ≡ reader.old.bytes.now }
+    ensures { Follows result (counts_at reader.old.bytes.now reader.old.position) (λ p c. (c.0 ≡ p) × (reader.new ≡ at_place reader.old c.1)) }
 {
     let objects = reader.number(0)?;
     let place = reader.position();
     let roots = reader.number(0)?;
     if roots > 64 {
-        return Err(Refusal {
-            fault: Fault::Roots,
-            place,
-            object: 0,
-        });
+        return Err(Fault::Roots.at(place, 0));
     }
     Ok((objects, roots))
 }
 
 // The whole image, stage after stage.
 fn read_image<L: Layout, V: Visitor>(bytes: &[u8], visitor: &mut V) -> Result<Summary, Refusal>
-    ensures { Follows result (read L.Layout.shape bytes.now) (λ s c. (s ≡ summary_of L.Layout.shape c) × (visitor.new ≡ fold V.Visitor.next visitor.old (headers c.objects))) }
+    ensures { Follows result (read L.shape bytes.now) (λ s c. (s ≡ summary_of L.shape c) × (visitor.new ≡ fold V.next visitor.old (headers c.objects))) }
 {
     let mut reader = Reader::open(bytes)?;
     sign::<L>(&mut reader)?;
-    let (count, root_count) = counts(&mut reader)?;
-    let greatest = roots(&mut reader, count, root_count)?;
-    let words = objects::<L, V>(&mut reader, visitor, count, greatest)?;
-    let place = reader.position();
+    let (objects, roots) = counts(&mut reader)?;
+    let mut pass = Pass {
+        reader,
+        objects,
+        greatest: 0,
+    };
+    pass.roots(roots)?;
+    let words = pass.objects::<L, V>(visitor)?;
+    let place = pass.reader.position();
     if place < bytes.len() {
-        return Err(Refusal {
-            fault: Fault::LeftOver,
-            place,
-            object: 0,
-        });
+        return Err(Fault::LeftOver.at(place, 0));
     }
     Ok(Summary {
-        objects: count,
-        roots: root_count,
+        objects,
+        roots,
         words,
     })
 }
@@ -268,9 +213,9 @@ fn read_image<L: Layout, V: Visitor>(bytes: &[u8], visitor: &mut V) -> Result<Su
 /// Checks an image of the layout `L` strictly and tells each of its objects to the visitor. If the
 /// image is refused, what the visitor was told is left open.
 pub fn visit<L: Layout, V: Visitor>(bytes: &[u8], visitor: &mut V) -> Result<Summary, Refusal>
-    ensures reads { result ≡ summarised L.Layout.shape (read L.Layout.shape bytes.now) }
-    ensures told { OnOk result (visitor.new ≡ fold V.Visitor.next visitor.old (headers_of (read L.Layout.shape bytes.now))) }
-    ensures exact { Exact L.Layout.shape bytes.now }
+    ensures reads { result ≡ summarised L.shape (read L.shape bytes.now) }
+    ensures told { OnOk result (visitor.new ≡ fold V.next visitor.old (headers_of (read L.shape bytes.now))) }
+    ensures exact { Exact L.shape bytes.now }
     ensures within { WithinBytes bytes.now result }
 {
     read_image::<L, V>(bytes, visitor)
