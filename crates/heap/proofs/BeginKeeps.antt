@@ -16,8 +16,7 @@ use Rattle.heap.specs.Sound.{Sound, size_at}
 use Rattle.heap.specs.Steps.{Begins}
 use Rattle.heap.specs.Tiles.{total, held_by}
 use Rattle.heap.proofs.Geometry.{place_below}
-use Rattle.heap.proofs.Holds.{Holds}
-use Rattle.heap.proofs.Keeps.{same_outside}
+use Rattle.heap.proofs.Keeps.{Keeps, same_outside}
 use Rattle.heap.proofs.Opening.{same_everywhere, none_is_not}
 use Rattle.heap.proofs.Shading.{Shades, shades_none, shades_same, shades_more, shades_among, shaded_sound, marking-same, marking_outside}
 use Rattle.heap.proofs.Fills.{held_none}
@@ -65,7 +64,7 @@ module _ {S : Shape} {s : State} (h : Sound S s) where
   no_weight : (g : ℕ) → get_or {A = ℕ} no_marks.weights g 0 ≡ total (held_by (λ p. no_marks.marked p && not (no_marks.pending p)) (size_at S s)) (1024 * g) 1024
   no_weight g = same_everywhere {A = ℕ} 32 g 0 ∙ sym (held_none (λ p. no_marks.marked p && not (no_marks.pending p)) (size_at S s) (1024 * g) 1024 (λ k. refl))
 
-  begun_keeps : Holds S s (λ t r. Begins s t r) (Ok tt, begun s)
+  begun_keeps : Keeps S s (λ t r. Begins s t r) (Ok tt, begun s)
   begun_keeps =
       let all = roots-shaded 64 in
       let m = all.0 in
@@ -73,7 +72,7 @@ module _ {S : Shape} {s : State} (h : Sound S s) where
       let is : begun s ≡ with_phase (with_marks s m) Marking = ap (λ t. with_phase t Marking) all.1 in
       let pending : (p : ℕ) → m.marked p ≡ true → m.pending p ≡ true = λ p e. elim (d.only p e) [ inl u ↦ absurd (false≢true u) | inr u ↦ u.0 ] in
       let among : (p : ℕ) → m.pending p ≡ true → m.marked p ≡ true = shades_among d (λ q e. e) in
-      subst (λ t. Holds S s (λ t r. Begins s t r) (Ok tt, t)) (sym is)
+      subst (λ t. Keeps S s (λ t r. Begins s t r) (Ok tt, t)) (sym is)
       (record {
         sound = shaded_sound h d (λ p e. absurd (false≢true e)) (λ p u. h.rooted u.0 p u.2) (λ p e. e) refl no_weight;
         effect =
@@ -90,9 +89,9 @@ module _ {S : Shape} {s : State} (h : Sound S s) where
       both : (a b : Bool) → (a ≡ true → b ≡ true) → (b ≡ true → a ≡ true) → a ≡ b
       both a b x y = grind arith
 
-pub begin_keeps : (S : Shape) (s : State) → Sound S s → Holds S s (λ t r. Begins s t r) (begin_step s)
+pub begin_keeps : (S : Shape) (s : State) → Sound S s → Keeps S s (λ t r. Begins s t r) (begin_step s)
 begin_keeps S s h = go (admitted s.phase Begin)
   where
-    go : (r : Result (Unit {0}) Refusal) → Holds S s (λ t r. Begins s t r) (begin_by s r)
+    go : (r : Result (Unit {0}) Refusal) → Keeps S s (λ t r. Begins s t r) (begin_by s r)
     go (Ok granted) = begun_keeps h
     go (Err why) = record { sound = h; effect = refl; outside = same_outside s }

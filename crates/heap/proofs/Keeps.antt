@@ -1,4 +1,4 @@
--- What is shown of each edit of a sound heap: it stays sound, the edit has its effect, and nothing outside changes. An edit
+-- What is shown of each call on a sound heap: it stays sound, the call has its effect, and nothing outside changes. An edit
 -- that is refused alters nothing, so it keeps all that.
 use Rattle.std.proofs.Common.{◌≡◌, Bool, true, false, cond, Err, Result, sym, refl, subst}
 use Rattle.layout.specs.Shape.{Shape}
@@ -6,15 +6,16 @@ use Rattle.memory.specs.State.{State}
 use Rattle.model.specs.declared.edits.Refusal.{Refusal}
 use Rattle.heap.specs.Sound.{Sound}
 use Rattle.heap.specs.Effects.{Outside, Granting}
+use Rattle.heap.proofs.Sure.{recovered}
 
-pub record Keeps (S : Shape) (s : State) (Effect : State → Result (Unit {0}) Refusal → Type 0) (p : Result (Unit {0}) Refusal × State) : Type 0 where
+pub record Keeps {A : Type 0} (S : Shape) (s : State) (Effect : State → A → Type 0) (p : A × State) : Type 0 where
   pub sound : Sound S p.1
   pub effect : Effect p.1 p.0
   pub outside : Outside s p.1
 
--- where a call gives what its definition says, it keeps what the definition keeps
-pub as_defined : (S : Shape) (s : State) (Effect : State → Result (Unit {0}) Refusal → Type 0) {p q : Result (Unit {0}) Refusal × State} → p ≡ q → Keeps S s Effect q → Keeps S s Effect p
-as_defined S s Effect e k = subst (Keeps S s Effect) (sym e) k
+-- a call that gives what its definition says keeps what the definition keeps, on a heap that its type says to be sound
+pub kept : {A : Type 0} {S : Shape} {s : State} {Effect : State → A → Type 0} {p q : A × State} → ∥ Sound S s ∥₁ → p ≡ q → (Sound S s → Keeps S s Effect q) → Keeps S s Effect p
+kept {S} {s} {Effect} h e keeps = subst (Keeps S s Effect) (sym e) (keeps (recovered S s h))
 
 -- a call that tests and then does one thing or another keeps what both keep
 pub either_keeps : (S : Shape) (s : State) (Effect : State → Result (Unit {0}) Refusal → Type 0) (b : Bool) (p q : Result (Unit {0}) Refusal × State)

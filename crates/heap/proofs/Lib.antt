@@ -1,4 +1,5 @@
 pub mod Geometry
+pub mod Sure
 pub mod Keeps
 pub mod Joined
 pub mod Totals
@@ -17,7 +18,6 @@ pub mod Placing
 pub mod Born
 pub mod NewKeeps
 pub mod NewSpace
-pub mod Holds
 pub mod Shading
 pub mod Fills
 pub mod BeginKeeps

@@ -19,8 +19,7 @@ use Rattle.heap.specs.Effects.{Outside}
 use Rattle.heap.specs.Steps.{Ends, Marks}
 use Rattle.heap.proofs.Fills.{weight_within}
 use Rattle.heap.proofs.Geometry.{place_below}
-use Rattle.heap.proofs.Holds.{Holds}
-use Rattle.heap.proofs.Keeps.{same_outside}
+use Rattle.heap.proofs.Keeps.{Keeps, same_outside}
 use Rattle.heap.proofs.Opening.{at_set, as_many_free}
 use Rattle.heap.proofs.ScanKeeps.{scan_keeps}
 use Rattle.heap.proofs.Totals.{held_same}
@@ -142,7 +141,7 @@ module _ {S : Shape} {s : State} (h : Sound S s) where
 
 -- ---- the step
 
-pub mark_keeps : (S : Shape) → Lawful S → (s : State) → Sound S s → Holds S s (λ t r. Marks S s t r) (mark_step S s)
+pub mark_keeps : (S : Shape) → Lawful S → (s : State) → Sound S s → Keeps S s (λ t r. Marks S s t r) (mark_step S s)
 mark_keeps S law s h = go s.phase refl
   where
     -- what is pending lies below 32,768, where the search looks
@@ -153,14 +152,14 @@ mark_keeps S law s h = go s.phase refl
     ]
 
     next : s.phase ≡ Marking → (o : Option ℕ) → first_of s.marks.pending 0 32768 ≡ o
-        → Holds S s (λ t r. Marks S s t r) (Ok (marked_next S s o).0, (marked_next S s o).1)
+        → Keeps S s (λ t r. Marks S s t r) (Ok (marked_next S s o).0, (marked_next S s o).1)
     next marking None e = let all = end_keeps h marking (none-pending e) in record { sound = all.0; effect = all.1; outside = all.2 }
     next marking (Some p) e =
         let first = first_of_some s.marks.pending 0 32768 p e in
         let all = scan_keeps law h p (h.marked p (h.awaited p first.2)) marking first.2 (λ q l. first.3 q (omega arith) l) in
         record { sound = all.0; effect = (p, all.1); outside = all.2 }
 
-    go : (f : Phase) → s.phase ≡ f → Holds S s (λ t r. Marks S s t r) (mark_by S s (admitted f Mark))
+    go : (f : Phase) → s.phase ≡ f → Keeps S s (λ t r. Marks S s t r) (mark_by S s (admitted f Mark))
     go Idle e = record { sound = h; effect = refl; outside = same_outside s }
     go Marking e = next e (first_of s.marks.pending 0 32768) refl
     go Marked e = record { sound = h; effect = refl; outside = same_outside s }

@@ -16,8 +16,7 @@ use Rattle.heap.specs.Effects.{Outside}
 use Rattle.heap.specs.Steps.{Refers, Refines, Refining}
 use Rattle.heap.proofs.Entering.{Tables, Enters, card-entered}
 use Rattle.heap.proofs.Geometry.{in_use}
-use Rattle.heap.proofs.Holds.{Holds}
-use Rattle.heap.proofs.Keeps.{same_outside}
+use Rattle.heap.proofs.Keeps.{Keeps, same_outside}
 
 -- what would be so is not
 not_so : (b : Bool) → (b ≡ true → ⊥) → b ≡ false
@@ -110,10 +109,10 @@ module _ {S : Shape} {s : State} (h : Sound S s) where
     refined_outside : Outside s after
     refined_outside = record { words = λ k l. refl; spare = refl; count = refl }
 
-pub refine_keeps : (S : Shape) → Lawful S → (s : State) → Sound S s → Holds S s (λ t r. Refining S s t r) (refine_step S s)
+pub refine_keeps : (S : Shape) → Lawful S → (s : State) → Sound S s → Keeps S s (λ t r. Refining S s t r) (refine_step S s)
 refine_keeps S law s h = go (first_of s.cards.dirty 0 512) refl
   where
-    go : (o : Option ℕ) → first_of s.cards.dirty 0 512 ≡ o → Holds S s (λ t r. Refining S s t r) (refine_next S s o)
+    go : (o : Option ℕ) → first_of s.cards.dirty 0 512 ≡ o → Keeps S s (λ t r. Refining S s t r) (refine_next S s o)
     go None e =
         record {
           sound = h;
@@ -129,7 +128,7 @@ refine_keeps S law s h = go (first_of s.cards.dirty 0 512) refl
         let t = all.0 in
         let is : with_cards (enter_objects S s d 64) (cleaned (enter_objects S s d 64).cards d) ≡ with_cards s (record { dirty = put s.cards.dirty d false; table = t }) =
         ap (λ x. with_cards x (cleaned x.cards d)) all.1 in
-        subst (λ x. Holds S s (λ t r. Refining S s t r) (Refined, x)) (sym is)
+        subst (λ x. Keeps S s (λ t r. Refining S s t r) (Refined, x)) (sym is)
         (record {
           sound = refined_sound h d t all.2;
           effect = (d, refined h d t all.2 first.2 (λ c l. first.3 c (omega arith) l));

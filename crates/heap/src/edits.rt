@@ -1,40 +1,27 @@
 //! The edits of a heap.
 //!
-//! The clause `step` of a contract is one equation, which holds of any heap: the answer and the state after the call. The
-//! other clauses speak of a sound heap: it stays sound, the call does to its objects what its name says or is refused and
-//! alters nothing, and nothing outside the regions changes.
+//! The clause `step` of a contract is one equation: the answer and the state after the call. The other clauses rest on the
+//! heap being sound: the call does to its objects what its name says or is refused and alters nothing, and nothing outside
+//! the regions changes.
 ghost use Rattle.heap.specs.Effects.{Clears, Copies, Gets, Makes, Outside, Puts, Sets, Spaceless};
-ghost use Rattle.heap.specs.Sound.{Sound};
 ghost use Rattle.heap.specs.View.{state_of};
 ghost use Rattle.memory.specs.Edits.{clear_root, copy_root, get_reference, head_of, peek_word, put_word, same_roots, set_reference};
-ghost use Rattle.memory.specs.Objects.{making, new_object};
+ghost use Rattle.memory.specs.Objects.{new_object};
 ghost use Rattle.std.specs.Prelude.{◌≡◌};
 
 use crate::heap::Heap;
 use layout::Layout;
-use memory::Memory;
 use model::Refusal;
 use store::Store;
 
 impl<S: Store, L: Layout> Heap<S, L> {
-    /// A heap without objects on the words of a store. It writes no word.
-    pub fn over(store: S) -> Heap<S, L>
-        ensures step { state_of S.words S.spare result ≡ making (S.words store) (S.spare store) }
-        ensures sound { Sound L.shape (state_of S.words S.spare result) }
-    {
-        Heap {
-            memory: Memory::over(store),
-        }
-    }
-
     /// Makes an object with that header and a body of zeros; the root then holds it.
     /// Refused: 1 for a root above 63, 2 for a header that is not legal, 33 where there is no space.
     pub fn new(&mut self, root: u32, header: u32) -> Result<(), Refusal>
         ensures step { (result, state_of S.words S.spare self.new) ≡ new_object L.shape (state_of S.words S.spare self.old) root header }
-        ensures sound { Sound L.shape (state_of S.words S.spare self.old) → Sound L.shape (state_of S.words S.spare self.new) }
-        ensures effect { Sound L.shape (state_of S.words S.spare self.old) → Makes L.shape (state_of S.words S.spare self.old) (state_of S.words S.spare self.new) root header result }
+        ensures effect { Makes L.shape (state_of S.words S.spare self.old) (state_of S.words S.spare self.new) root header result }
         ensures space { Spaceless L.shape (state_of S.words S.spare self.old) header result }
-        ensures outside { Sound L.shape (state_of S.words S.spare self.old) → Outside (state_of S.words S.spare self.old) (state_of S.words S.spare self.new) }
+        ensures outside { Outside (state_of S.words S.spare self.old) (state_of S.words S.spare self.new) }
     {
         self.memory.new(root, header)
     }
@@ -43,9 +30,8 @@ impl<S: Store, L: Layout> Heap<S, L> {
     /// Refused: 1 for a root above 63, 31 if root `i` is nil, 32 if the position holds no reference.
     pub fn set(&mut self, i: u32, position: u32, k: u32) -> Result<(), Refusal>
         ensures step { (result, state_of S.words S.spare self.new) ≡ set_reference L.shape (state_of S.words S.spare self.old) i position k }
-        ensures sound { Sound L.shape (state_of S.words S.spare self.old) → Sound L.shape (state_of S.words S.spare self.new) }
-        ensures effect { Sound L.shape (state_of S.words S.spare self.old) → Sets L.shape (state_of S.words S.spare self.old) (state_of S.words S.spare self.new) i position k result }
-        ensures outside { Sound L.shape (state_of S.words S.spare self.old) → Outside (state_of S.words S.spare self.old) (state_of S.words S.spare self.new) }
+        ensures effect { Sets L.shape (state_of S.words S.spare self.old) (state_of S.words S.spare self.new) i position k result }
+        ensures outside { Outside (state_of S.words S.spare self.old) (state_of S.words S.spare self.new) }
     {
         self.memory.set(i, position, k)
     }
@@ -53,9 +39,8 @@ impl<S: Store, L: Layout> Heap<S, L> {
     /// Loads root `k` from a reference position of the object at root `i`. Refused as `set`.
     pub fn get(&mut self, i: u32, position: u32, k: u32) -> Result<(), Refusal>
         ensures step { (result, state_of S.words S.spare self.new) ≡ get_reference L.shape (state_of S.words S.spare self.old) i position k }
-        ensures sound { Sound L.shape (state_of S.words S.spare self.old) → Sound L.shape (state_of S.words S.spare self.new) }
-        ensures effect { Sound L.shape (state_of S.words S.spare self.old) → Gets L.shape (state_of S.words S.spare self.old) (state_of S.words S.spare self.new) i position k result }
-        ensures outside { Sound L.shape (state_of S.words S.spare self.old) → Outside (state_of S.words S.spare self.old) (state_of S.words S.spare self.new) }
+        ensures effect { Gets L.shape (state_of S.words S.spare self.old) (state_of S.words S.spare self.new) i position k result }
+        ensures outside { Outside (state_of S.words S.spare self.old) (state_of S.words S.spare self.new) }
     {
         self.memory.get(i, position, k)
     }
@@ -64,9 +49,8 @@ impl<S: Store, L: Layout> Heap<S, L> {
     /// Refused: 1 for a root above 63, 31 if root `i` is nil, 32 if the position holds no plain word.
     pub fn put(&mut self, i: u32, position: u32, word: u32) -> Result<(), Refusal>
         ensures step { (result, state_of S.words S.spare self.new) ≡ put_word L.shape (state_of S.words S.spare self.old) i position word }
-        ensures sound { Sound L.shape (state_of S.words S.spare self.old) → Sound L.shape (state_of S.words S.spare self.new) }
-        ensures effect { Sound L.shape (state_of S.words S.spare self.old) → Puts L.shape (state_of S.words S.spare self.old) (state_of S.words S.spare self.new) i position word result }
-        ensures outside { Sound L.shape (state_of S.words S.spare self.old) → Outside (state_of S.words S.spare self.old) (state_of S.words S.spare self.new) }
+        ensures effect { Puts L.shape (state_of S.words S.spare self.old) (state_of S.words S.spare self.new) i position word result }
+        ensures outside { Outside (state_of S.words S.spare self.old) (state_of S.words S.spare self.new) }
     {
         self.memory.put(i, position, word)
     }
@@ -74,9 +58,8 @@ impl<S: Store, L: Layout> Heap<S, L> {
     /// Makes root `k` hold what root `i` holds. Refused: 1 for a root above 63.
     pub fn copy(&mut self, i: u32, k: u32) -> Result<(), Refusal>
         ensures step { (result, state_of S.words S.spare self.new) ≡ copy_root (state_of S.words S.spare self.old) i k }
-        ensures sound { Sound L.shape (state_of S.words S.spare self.old) → Sound L.shape (state_of S.words S.spare self.new) }
-        ensures effect { Sound L.shape (state_of S.words S.spare self.old) → Copies (state_of S.words S.spare self.old) (state_of S.words S.spare self.new) i k result }
-        ensures outside { Sound L.shape (state_of S.words S.spare self.old) → Outside (state_of S.words S.spare self.old) (state_of S.words S.spare self.new) }
+        ensures effect { Copies (state_of S.words S.spare self.old) (state_of S.words S.spare self.new) i k result }
+        ensures outside { Outside (state_of S.words S.spare self.old) (state_of S.words S.spare self.new) }
     {
         self.memory.copy(i, k)
     }
@@ -84,9 +67,8 @@ impl<S: Store, L: Layout> Heap<S, L> {
     /// Makes root `i` nil. Refused: 1 for a root above 63.
     pub fn clear(&mut self, i: u32) -> Result<(), Refusal>
         ensures step { (result, state_of S.words S.spare self.new) ≡ clear_root (state_of S.words S.spare self.old) i }
-        ensures sound { Sound L.shape (state_of S.words S.spare self.old) → Sound L.shape (state_of S.words S.spare self.new) }
-        ensures effect { Sound L.shape (state_of S.words S.spare self.old) → Clears (state_of S.words S.spare self.old) (state_of S.words S.spare self.new) i result }
-        ensures outside { Sound L.shape (state_of S.words S.spare self.old) → Outside (state_of S.words S.spare self.old) (state_of S.words S.spare self.new) }
+        ensures effect { Clears (state_of S.words S.spare self.old) (state_of S.words S.spare self.new) i result }
+        ensures outside { Outside (state_of S.words S.spare self.old) (state_of S.words S.spare self.new) }
     {
         self.memory.clear(i)
     }

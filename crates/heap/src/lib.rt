@@ -3,7 +3,6 @@
 
 mod edits;
 mod heap;
-mod look;
 mod steps;
 
 pub use heap::Heap;

@@ -1,8 +1,7 @@
 //! The small steps of a collector: marking and refining.
 //!
-//! The clauses are those of the edits. `step` holds of any heap, the others speak of a sound one.
+//! The clauses are those of the edits.
 ghost use Rattle.heap.specs.Effects.{Outside};
-ghost use Rattle.heap.specs.Sound.{Sound};
 ghost use Rattle.heap.specs.Steps.{Begins, Marks, Refining};
 ghost use Rattle.heap.specs.View.{state_of};
 ghost use Rattle.marking.specs.Refining.{refine_step};
@@ -19,9 +18,8 @@ impl<S: Store, L: Layout> Heap<S, L> {
     /// Begins a marking: what the roots hold is marked and pending, and nothing else is marked. Refused: 34 while marking.
     pub fn begin(&mut self) -> Result<(), Refusal>
         ensures step { (result, state_of S.words S.spare self.new) ≡ begin_step (state_of S.words S.spare self.old) }
-        ensures sound { Sound L.shape (state_of S.words S.spare self.old) → Sound L.shape (state_of S.words S.spare self.new) }
-        ensures effect { Sound L.shape (state_of S.words S.spare self.old) → Begins (state_of S.words S.spare self.old) (state_of S.words S.spare self.new) result }
-        ensures outside { Sound L.shape (state_of S.words S.spare self.old) → Outside (state_of S.words S.spare self.old) (state_of S.words S.spare self.new) }
+        ensures effect { Begins (state_of S.words S.spare self.old) (state_of S.words S.spare self.new) result }
+        ensures outside { Outside (state_of S.words S.spare self.old) (state_of S.words S.spare self.new) }
     {
         marking::begin(&mut self.memory)
     }
@@ -29,9 +27,8 @@ impl<S: Store, L: Layout> Heap<S, L> {
     /// Scans the pending object at the lowest place, or ends the marking where none is pending. Refused: 35 if not marking.
     pub fn mark(&mut self) -> Result<Marked, Refusal>
         ensures step { (result, state_of S.words S.spare self.new) ≡ mark_step L.shape (state_of S.words S.spare self.old) }
-        ensures sound { Sound L.shape (state_of S.words S.spare self.old) → Sound L.shape (state_of S.words S.spare self.new) }
-        ensures effect { Sound L.shape (state_of S.words S.spare self.old) → Marks L.shape (state_of S.words S.spare self.old) (state_of S.words S.spare self.new) result }
-        ensures outside { Sound L.shape (state_of S.words S.spare self.old) → Outside (state_of S.words S.spare self.old) (state_of S.words S.spare self.new) }
+        ensures effect { Marks L.shape (state_of S.words S.spare self.old) (state_of S.words S.spare self.new) result }
+        ensures outside { Outside (state_of S.words S.spare self.old) (state_of S.words S.spare self.new) }
     {
         marking::mark(&mut self.memory)
     }
@@ -40,9 +37,8 @@ impl<S: Store, L: Layout> Heap<S, L> {
     /// clean. It is never refused.
     pub fn refine(&mut self) -> Refined
         ensures step { (result, state_of S.words S.spare self.new) ≡ refine_step L.shape (state_of S.words S.spare self.old) }
-        ensures sound { Sound L.shape (state_of S.words S.spare self.old) → Sound L.shape (state_of S.words S.spare self.new) }
-        ensures effect { Sound L.shape (state_of S.words S.spare self.old) → Refining L.shape (state_of S.words S.spare self.old) (state_of S.words S.spare self.new) result }
-        ensures outside { Sound L.shape (state_of S.words S.spare self.old) → Outside (state_of S.words S.spare self.old) (state_of S.words S.spare self.new) }
+        ensures effect { Refining L.shape (state_of S.words S.spare self.old) (state_of S.words S.spare self.new) result }
+        ensures outside { Outside (state_of S.words S.spare self.old) (state_of S.words S.spare self.new) }
     {
         marking::refine(&mut self.memory)
     }

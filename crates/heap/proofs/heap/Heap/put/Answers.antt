@@ -1,15 +1,9 @@
-use Rattle.memory.specs.Edits.{put_word}
-use Rattle.heap.specs.Effects.{Puts}
-use Rattle.heap.specs.Sound.{Sound}
-use Rattle.heap.specs.View.{state_of}
-use Rattle.heap.proofs.Keeps.{as_defined}
+use Rattle.heap.proofs.Keeps.{kept}
 use Rattle.heap.proofs.PutKeeps.{put_keeps}
 use Rattle.heap.proofs.heap.Heap.put.Goals as goal
 
+pub invariant_of-self : goal.invariant_of-self
+invariant_of-self g c = record { sound = ∣ (kept c.args.self.now.sound c.put.ensures (put_keeps _ g.met.L.Layout.lawful _ c.args.i c.args.position c.args.word)).sound ∣₁ }
+
 pub returns : goal.returns
-returns g c =
-    let S = g.L.Layout.shape in
-    let s = state_of g.S.Store.words g.S.Store.spare c.args.self.now in
-    let e = c.put.ensures in
-    let keeps = λ (h : Sound S s). as_defined S s (λ t r. Puts S s t c.args.i c.args.position c.args.word r) {q = put_word S s c.args.i c.args.position c.args.word} e (put_keeps S g.met.L.Layout.lawful s c.args.i c.args.position c.args.word h) in
-    record { step = e; sound = λ h. (keeps h).sound; effect = λ h. (keeps h).effect; outside = λ h. (keeps h).outside }
+returns g c = assumption (kept c.args.self.now.sound c.put.ensures (put_keeps _ g.met.L.Layout.lawful _ c.args.i c.args.position c.args.word))
