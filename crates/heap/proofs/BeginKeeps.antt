@@ -2,6 +2,7 @@
 -- another. Each of these is an object, so the heap is sound.
 use Rattle.std.proofs.Common.{◌≡◌, ℕ, zero, suc, ◌*◌, ◌<◌, Bool, true, not, ◌&&◌, get_or, Some, None, Ok, Err, Option, Result, sym, refl, ap, ◌∙◌, subst, inl, inr, arith}
 use mathlib.Core.Bool.{false≢true}
+use Rattle.std.proofs.lemmas.Option.{none-some}
 use Rattle.layout.specs.Shape.{Shape}
 use Rattle.marking.specs.Admission.{admitted}
 use Rattle.marking.specs.Scanning.{shaded_at, shaded_roots, begun, begin_by, begin_step}
@@ -17,7 +18,7 @@ use Rattle.heap.specs.Steps.{Begins}
 use Rattle.heap.specs.Tiles.{total, held_by}
 use Rattle.heap.proofs.Geometry.{place_below}
 use Rattle.heap.proofs.Keeps.{Keeps, same_outside}
-use Rattle.heap.proofs.Opening.{same_everywhere, none_is_not}
+use Rattle.heap.proofs.Opening.{same_everywhere}
 use Rattle.heap.proofs.Shading.{Shades, shades_none, shades_same, shades_more, shades_among, shaded_sound, marking-same, marking_outside}
 use Rattle.heap.proofs.Fills.{held_none}
 
@@ -33,7 +34,7 @@ module _ {S : Shape} {s : State} (h : Sound S s) where
     m,
     refl,
     shades_same d (λ q u. (u.0, omega (arith, u.1), u.2)) (λ q u. elim (cases_eq u.0 n) [
-      | inl z ↦ none_is_not q (sym e ∙ ap (root_in s) (sym z) ∙ u.2)
+      | inl z ↦ absurd (none-some q (sym e ∙ ap (root_in s) (sym z) ∙ u.2))
       | inr z ↦ d.all q (u.0, omega (arith, u.1), u.2)
     ]),
   )
@@ -58,7 +59,7 @@ module _ {S : Shape} {s : State} (h : Sound S s) where
   all-roots : (k q : ℕ) → root_in s k ≡ Some q → held_below s 64 q
   all-roots k q e = elim (cases_lt k 64) [
     | inl l ↦ (k, l, e)
-    | inr l ↦ none_is_not q (sym (get_or_past s.roots k None (omega (arith, h.rooms))) ∙ e)
+    | inr l ↦ absurd (none-some q (sym (get_or_past s.roots k None (omega (arith, h.rooms))) ∙ e))
   ]
 
   no_weight : (g : ℕ) → get_or {A = ℕ} no_marks.weights g 0 ≡ total (held_by (λ p. no_marks.marked p && not (no_marks.pending p)) (size_at S s)) (1024 * g) 1024

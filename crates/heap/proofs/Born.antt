@@ -7,7 +7,7 @@ use Rattle.layout.specs.Shape.{Shape}
 use Rattle.memory.specs.State.{State}
 use Rattle.memory.specs.Objects.{born_marked}
 use Rattle.memory.specs.declared.phase.Phase.TheVariants.{Idle}
-use Rattle.std.proofs.lemmas.Bool.{cases_Bool, cases_eq, cond-true, cond-false, eq-eqb, ne_eqb}
+use Rattle.std.proofs.lemmas.Bool.{cases_eq, false_from_ne_true, cond-true, cond-false, eq-eqb, ne_eqb}
 use Rattle.tables.specs.Marks.{heavier}
 use Rattle.tables.specs.declared.region.Region.{Region}
 use Rattle.tables.specs.Regions.{region_at, is_free, is_free_at, with_live, added_live}
@@ -52,7 +52,7 @@ module _ {S : Shape} {s : State} (d : Sound S s) (p n : ℕ) (is : s.starts p �
   frees k = ap is_free (kinds k)
 
   pending_not : s.marks.pending p ≡ false
-  pending_not = elim (cases_Bool (s.marks.pending p)) [ inl y ↦ absurd (true≢false (sym (d.awaited p y) ∙ not_yet)) | inr y ↦ y ]
+  pending_not = false_from_ne_true _ (λ y. true≢false (sym (d.awaited p y) ∙ not_yet))
 
   -- it is marked and not pending then
   one_more : (k : ℕ) → scanned (born_marked s p n) k ≡ put (scanned s) p true k

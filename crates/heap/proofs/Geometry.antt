@@ -2,7 +2,7 @@
 use Rattle.std.proofs.Common.{◌≡◌, ℕ, ◌+◌, ◌*◌, ◌/◌, ◌<◌, ◌≤◌, true, false, length, inl, inr, arith}
 use Rattle.layout.specs.Shape.{Shape}
 use Rattle.memory.specs.State.{State}
-use Rattle.std.proofs.lemmas.Bool.{cases_Bool, cases_lt}
+use Rattle.std.proofs.lemmas.Bool.{cases_Bool, cases_lt, false_from_ne_true}
 use Rattle.tables.specs.Regions.{is_free_at}
 use Rattle.heap.specs.Sound.{Sound, region, size_at}
 
@@ -25,10 +25,7 @@ module _ {S : Shape} {s : State} (h : Sound S s) where
 
   -- its region is in use, so it is one of the store's
   pub in_use : (p : ℕ) → s.starts p ≡ true → is_free_at s.regions.entries (p / 1024) ≡ false
-  in_use p e = elim (cases_Bool (is_free_at s.regions.entries (p / 1024))) [
-    | inl f ↦ absurd (omega (arith, (h.vacant (p / 1024) f).unused, ends_in p e, some_word p e))
-    | inr f ↦ f
-  ]
+  in_use p e = false_from_ne_true _ (λ f. omega (arith, (h.vacant (p / 1024) f).unused, ends_in p e, some_word p e))
 
   pub in_store : (p : ℕ) → s.starts p ≡ true → p / 1024 < s.regions.count
   in_store p e = (h.used (p / 1024) (in_use p e)).0

@@ -1,12 +1,12 @@
 -- What is shown of each call on a sound heap: it stays sound, the call has its effect, and nothing outside changes. An edit
 -- that is refused alters nothing, so it keeps all that.
-use Rattle.std.proofs.Common.{◌≡◌, Bool, true, false, cond, Err, Result, sym, refl, subst}
+use Rattle.std.proofs.Common.{◌≡◌, Err, sym, refl, subst}
 use Rattle.layout.specs.Shape.{Shape}
 use Rattle.memory.specs.State.{State}
 use Rattle.model.specs.declared.edits.Refusal.{Refusal}
 use Rattle.heap.specs.Sound.{Sound}
 use Rattle.heap.specs.Effects.{Outside, Granting}
-use Rattle.heap.proofs.Sure.{recovered}
+use Rattle.heap.proofs.Recovering.{recovered}
 
 pub record Keeps {A : Type 0} (S : Shape) (s : State) (Effect : State → A → Type 0) (p : A × State) : Type 0 where
   pub sound : Sound S p.1
@@ -16,12 +16,6 @@ pub record Keeps {A : Type 0} (S : Shape) (s : State) (Effect : State → A → 
 -- a call that gives what its definition says keeps what the definition keeps, on a heap that its type says to be sound
 pub kept : {A : Type 0} {S : Shape} {s : State} {Effect : State → A → Type 0} {p q : A × State} → ∥ Sound S s ∥₁ → p ≡ q → (Sound S s → Keeps S s Effect q) → Keeps S s Effect p
 kept {S} {s} {Effect} h e keeps = subst (Keeps S s Effect) (sym e) (keeps (recovered S s h))
-
--- a call that tests and then does one thing or another keeps what both keep
-pub either_keeps : (S : Shape) (s : State) (Effect : State → Result (Unit {0}) Refusal → Type 0) (b : Bool) (p q : Result (Unit {0}) Refusal × State)
-    → (b ≡ true → Keeps S s Effect p) → (b ≡ false → Keeps S s Effect q) → Keeps S s Effect (cond b p q)
-either_keeps S s Effect true p q f g = f refl
-either_keeps S s Effect false p q f g = g refl
 
 -- a refused call alters nothing
 pub same_outside : (s : State) → Outside s s

@@ -1,5 +1,5 @@
 pub mod Geometry
-pub mod Sure
+pub mod Recovering
 pub mod Keeps
 pub mod Joined
 pub mod Totals
@@ -8,6 +8,7 @@ pub mod Appending
 pub mod RootKeeps
 pub mod WordKeeps
 pub mod PutKeeps
+pub mod Shading
 pub mod Guarding
 pub mod SetKeeps
 pub mod Opening
@@ -18,7 +19,6 @@ pub mod Placing
 pub mod Born
 pub mod NewKeeps
 pub mod NewSpace
-pub mod Shading
 pub mod Fills
 pub mod BeginKeeps
 pub mod ScanKeeps

@@ -1,6 +1,7 @@
 -- A heap that was just made is sound: it has no objects, every region is blank and free, and every set is empty.
 use Rattle.std.proofs.Common.{◌≡◌, ℕ, ◌/◌, min, List, length, replicate, None, sym, refl, ap, ◌∙◌, true≢false, arith}
 use mathlib.Core.Bool.{false≢true}
+use Rattle.std.proofs.lemmas.Option.{none-some}
 use Rattle.layout.specs.Shape.{Shape}
 use Rattle.memory.specs.Objects.{making}
 use Rattle.tables.specs.declared.region.Region.{Region}
@@ -8,7 +9,7 @@ use Rattle.tables.specs.Regions.{blank, region_at, is_free}
 use Rattle.tables.proofs.Tables.{no_tables}
 use Rattle.heap.specs.Sound.{Sound}
 use Rattle.heap.proofs.Appending.{tiles_none}
-use Rattle.heap.proofs.Opening.{same_everywhere, none_is_not, blank_are_free}
+use Rattle.heap.proofs.Opening.{same_everywhere, blank_are_free}
 
 all-blank : (g : ℕ) → region_at (replicate 32 blank) g ≡ blank
 all-blank g = same_everywhere 32 g blank
@@ -21,7 +22,7 @@ making_sound S ws sp =
       whole = refl;
       tiled = λ g. tiles_none (ap (λ (e : Region). e.fill) (all-blank g)) (λ k. refl);
       headed = λ p y. absurd (false≢true y);
-      rooted = λ k p e. none_is_not p (sym (same_everywhere 64 k None) ∙ e);
+      rooted = λ k p e. absurd (none-some p (sym (same_everywhere 64 k None) ∙ e));
       linked = λ p i q y. absurd (false≢true y);
       spared = λ l. blank_are_free (min (length ws / 1024) 32) l;
       vacant = λ g y.
@@ -41,7 +42,7 @@ making_sound S ws sp =
       settled = λ f p. refl;
       unmarked = λ f p. refl;
       weights = refl;
-      tallied = λ e. let z : ◌≡◌ {A = ℕ} 0 1 = cc in absurd (omega arith);
+      tallied = λ e. absurd (grind arith);
       living = λ g. let z : (region_at (replicate 32 blank) g).live ≡ 0 = ap (λ (e : Region). e.live) (all-blank g) in omega arith;
-      weighed = λ e. let z : ◌≡◌ {A = ℕ} 0 1 = cc in absurd (omega arith);
+      weighed = λ e. absurd (grind arith);
     }

@@ -11,7 +11,7 @@ use Rattle.memory.specs.State.{State, with_regions, with_phase}
 use Rattle.memory.specs.declared.phase.Phase.{Phase}
 use Rattle.memory.specs.declared.phase.Phase.TheVariants.{Idle, Marking, Marked}
 use Rattle.std.proofs.lemmas.List.{get_or_past}
-use Rattle.std.proofs.lemmas.Bool.{cases_Bool, cases_lt}
+use Rattle.std.proofs.lemmas.Bool.{cases_lt, false_from_ne_true, true≢false}
 use Rattle.tables.specs.declared.regions.Regions.{Regions}
 use Rattle.tables.specs.Regions.{blank, region_at, is_free, is_free_at, with_live, with_live_at}
 use Rattle.heap.specs.Sound.{Sound, region, size_at, scanned}
@@ -108,9 +108,9 @@ module _ {S : Shape} {s : State} (h : Sound S s) where
           marked = h.marked;
           awaited = h.awaited;
           settled = λ not. none;
-          unmarked = λ idle p. absurd (let z : ◌≡◌ {A = ℕ} 0 1 = cc in omega arith);
+          unmarked = λ idle p. absurd (grind arith);
           weights = h.weights;
-          tallied = λ e g. absurd (let z : ◌≡◌ {A = ℕ} 0 1 = cc in omega arith);
+          tallied = λ e g. absurd (grind arith);
           living = λ g. omega (arith, within g, d.fills g);
           weighed = λ e. lives_all;
         }
@@ -146,10 +146,8 @@ mark_keeps S law s h = go s.phase refl
   where
     -- what is pending lies below 32,768, where the search looks
     none-pending : first_of s.marks.pending 0 32768 ≡ None → (q : ℕ) → s.marks.pending q ≡ false
-    none-pending e q = elim (cases_Bool (s.marks.pending q)) [
-      | inl y ↦ first_of_none s.marks.pending 0 32768 q e (omega arith) (omega (arith, place_below h q (h.marked q (h.awaited q y))))
-      | inr y ↦ y
-    ]
+    none-pending e q = false_from_ne_true _ (λ y.
+        true≢false (sym y ∙ first_of_none s.marks.pending 0 32768 q e (omega arith) (omega (arith, place_below h q (h.marked q (h.awaited q y))))))
 
     next : s.phase ≡ Marking → (o : Option ℕ) → first_of s.marks.pending 0 32768 ≡ o
         → Keeps S s (λ t r. Marks S s t r) (Ok (marked_next S s o).0, (marked_next S s o).1)

@@ -1,6 +1,6 @@
 -- Making an object keeps a heap sound, makes that object and no other, and changes nothing outside. The object is laid where
 -- room was found; in marking and in marked it is marked and counted live, and no other mark changes; then the root holds it.
-use Rattle.std.proofs.Common.{◌≡◌, ℕ, ◌+◌, ◌/◌, ◌≤◌, true, false, ltb, leb, Some, None, Err, Option, Result, sym, refl, ap, ◌∙◌, inl, inr, arith}
+use Rattle.std.proofs.Common.{◌≡◌, ℕ, ◌+◌, ◌/◌, ◌≤◌, true, false, ltb, leb, Some, None, Err, Option, Result, sym, refl, ap, ◌∙◌, arith}
 use Rattle.layout.specs.Shape.{Shape, Lawful}
 use Rattle.memory.specs.declared.phase.Phase.{Phase}
 use Rattle.memory.specs.declared.phase.Phase.TheVariants.{Idle, Marking, Marked}
@@ -8,7 +8,7 @@ use Rattle.memory.specs.State.{State, with_root, with_regions, with_marks}
 use Rattle.memory.specs.Objects.{laid, born, born_marked, new_at, new_object}
 use Rattle.model.specs.declared.edits.Refusal.{Refusal}
 use Rattle.model.specs.declared.edits.Refusal.TheVariants.{RootAbove63, IllegalHeader, NoSpace}
-use Rattle.std.proofs.lemmas.Bool.{cases_Bool, cond_both, and_parts, leb-true, true≢false}
+use Rattle.std.proofs.lemmas.Bool.{cond_both, false_from_ne_true, and_parts, leb-true, true≢false}
 use Rattle.tables.specs.declared.regions.Regions.{Regions}
 use Rattle.tables.specs.Marks.{Sets}
 use Rattle.tables.specs.Regions.{is_open, free_count, next_free, room, appended, opening, opening_at, taken}
@@ -31,7 +31,7 @@ module _ {S : Shape} (lw : Lawful S) {s : State} (d : Sound S s) (root h : ℕ) 
   is = joined_has 32768 s.starts p (near lw d h legal m)
 
   unmarked : s.marks.marked p ≡ false
-  unmarked = elim (cases_Bool (s.marks.marked p)) [ inl y ↦ absurd (true≢false (sym (d.marked p y) ∙ fresh lw d h legal m)) | inr n ↦ n ]
+  unmarked = false_from_ne_true _ (λ y. true≢false (sym (d.marked p y) ∙ fresh lw d h legal m))
 
   named : (q : ℕ) → ◌≡◌ {A = Option ℕ} (Some p) (Some q) → t.starts q ≡ true
   named q e = let z : p ≡ q = cc in ap t.starts (sym z) ∙ is
@@ -67,8 +67,8 @@ module _ {S : Shape} (lw : Lawful S) {s : State} (d : Sound S s) (root h : ℕ) 
 
   born_so : (f : Phase) → s.phase ≡ f → Right (with_root (born f t p (S.size h)) root (Some p))
   born_so Idle e = born_idle e
-  born_so Marking e = born_busy (λ z. let x : ◌≡◌ {A = ℕ} 0 1 = cc in omega arith)
-  born_so Marked e = born_busy (λ z. let x : ◌≡◌ {A = ℕ} 0 1 = cc in omega arith)
+  born_so Marking e = born_busy (λ z. grind arith)
+  born_so Marked e = born_busy (λ z. grind arith)
 
   -- the words, the starts and the roots tell that the object was made, whatever the regions and the marks are
   made : (rs : Regions) (ms : Sets) → Made S s (with_root (with_regions (with_marks t ms) rs) root (Some p)) root h p

@@ -21,12 +21,12 @@ module _ (S : Shape) (s : State) (root h : ℕ) where
 
   there : 2 ≤ free_count s.regions → (x : Option ℕ) → next_free s.regions ≡ x → Found (opening_at s.regions (S.size h) x)
   there two None e = absurd (two_are_found s.regions two e)
-  there two (Some g) e = λ y. let z : ◌≡◌ {A = ℕ} 0 1 = cc in absurd (omega arith)
+  there two (Some g) e = λ y. absurd (grind arith)
 
   placed : Found (taken s.regions (S.size h))
   placed =
       cond_both (room s.regions (S.size h)) (appended s.regions (S.size h)) _ Found
-      (λ here y. let z : ◌≡◌ {A = ℕ} 0 1 = cc in absurd (omega arith))
+      (λ here y. absurd (grind arith))
       (λ full.
       cond_both (leb 2 (free_count s.regions)) (opening s.regions (S.size h)) (None, s.regions) Found
       (λ two. there (leb-true 2 (free_count s.regions) two) (next_free s.regions) refl)
@@ -35,8 +35,8 @@ module _ (S : Shape) (s : State) (root h : ℕ) where
   pub new_space : Spaceless S s h (new_object S s root h).0
   new_space =
       cond_both (ltb root 64) _ _ Fits
-      (λ low. cond_both (S.legal h) _ _ Fits (λ legal. placed) (λ illegal y. let z : ◌≡◌ {A = ℕ} 0 1 = cc in absurd (omega arith)))
-      (λ high y. let z : ◌≡◌ {A = ℕ} 0 1 = cc in absurd (omega arith))
+      (λ low. cond_both (S.legal h) _ _ Fits (λ legal. placed) (λ illegal y. absurd (grind arith)))
+      (λ high y. absurd (grind arith))
 
   -- the same of a call that gives what the definition says
   pub space_as_defined : {x : Result (Unit {0}) Refusal × State} → x ≡ new_object S s root h → Spaceless S s h x.0

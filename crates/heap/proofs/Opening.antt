@@ -3,6 +3,7 @@
 use Rattle.std.proofs.Common.{◌≡◌, ℕ, zero, suc, ◌+◌, ◌-◌, ◌<◌, ◌≤◌, true, false, List, length, get_or, set, replicate, Some, None, Option, sym, refl, ap, ◌∙◌, subst, inl, inr, arith}
 use mathlib.Core.Path.{fun_ext}
 use Rattle.std.proofs.lemmas.List.{get_or-set_same, get_or-set_other}
+use Rattle.std.proofs.lemmas.Option.{none-some}
 use Rattle.std.proofs.lemmas.Bool.{cases_eq, cases_lt, eq-eqb, ne_eqb, cond-true, cond-false}
 use Rattle.bitset.specs.Set.{one, put, tally}
 use Rattle.bitset.proofs.Set.{first_of_some, first_of_none, tally_front, tally-gap, tally_le, tally_out}
@@ -24,9 +25,6 @@ at_set P gs i e k l here there = elim (cases_eq k i) [
   | inr z ↦ subst P (sym (get_or-set_other gs i k e blank z)) (there z)
 ]
 
-pub none_is_not : {A : Type 0} (p : ℕ) → ◌≡◌ {A = Option ℕ} None (Some p) → A
-none_is_not p e = let z : ◌≡◌ {A = ℕ} 0 1 = cc in absurd (omega arith)
-
 -- ---- the search
 
 pub next_is_free : (r : Regions) (g : ℕ) → r.last < r.count → next_free r ≡ Some g → (g < r.count) × (is_free_at r.entries g ≡ true)
@@ -46,7 +44,7 @@ next_misses r k e l = go (first_free r.entries r.last (r.count - r.last)) refl e
   where
     go : (x : Option ℕ) → first_free r.entries r.last (r.count - r.last) ≡ x
         → or_else x (first_free r.entries 0 (r.last - 0)) ≡ None → is_free_at r.entries k ≡ false
-    go (Some g) y d = none_is_not g (sym d)
+    go (Some g) y d = absurd (none-some g (sym d))
     go None y d = elim (cases_lt k r.last) [
       | inl a ↦ first_of_none (is_free_at r.entries) 0 (r.last - 0) k d (omega arith) (omega arith)
       | inr a ↦ first_of_none (is_free_at r.entries) r.last (r.count - r.last) k y a (omega arith)

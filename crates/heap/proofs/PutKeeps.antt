@@ -4,10 +4,11 @@ use Rattle.std.proofs.Common.{◌≡◌, ℕ, ◌<◌, ◌≤◌, true, false, l
 use Rattle.layout.specs.Shape.{Shape, Lawful, plain}
 use Rattle.memory.specs.State.{State, word_in, root_in}
 use Rattle.memory.specs.Edits.{put_at, put_word}
+use Rattle.std.proofs.lemmas.Bool.{cond_both}
 use Rattle.std.proofs.lemmas.Bool.Decides.{nat_tests}
 use Rattle.heap.specs.Sound.{Sound}
 use Rattle.heap.specs.Effects.{Puts}
-use Rattle.heap.proofs.Keeps.{Keeps, either_keeps, refused_keeps}
+use Rattle.heap.proofs.Keeps.{Keeps, refused_keeps}
 use Rattle.heap.proofs.WordKeeps.{written_sound, written_wrote, written_outside}
 
 -- a plain word lies after the header and within the object, and is no reference
@@ -18,7 +19,7 @@ put_at_lem : (S : Shape) → Lawful S → (s : State) (o : Option ℕ) (i positi
     → Keeps S s (λ t r. Puts S s t i position word r) (put_at S s o position word)
 put_at_lem S law s None i position word e h = refused_keeps S s _ _ h
 put_at_lem S law s (Some p) i position word e h =
-    either_keeps S s (λ t r. Puts S s t i position word r) (plain S (word_in s p) position) _ _
+    cond_both (plain S (word_in s p) position) _ _ (Keeps S s (λ t r. Puts S s t i position word r))
     (λ f.
     let object = h.rooted i p e in
     let dirty = s.cards.dirty in
@@ -33,6 +34,6 @@ put_at_lem S law s (Some p) i position word e h =
 
 pub put_keeps : (S : Shape) → Lawful S → (s : State) (i position word : ℕ) → Sound S s → Keeps S s (λ t r. Puts S s t i position word r) (put_word S s i position word)
 put_keeps S law s i position word h =
-    either_keeps S s (λ t r. Puts S s t i position word r) (ltb i 64) _ _
+    cond_both (ltb i 64) _ _ (Keeps S s (λ t r. Puts S s t i position word r))
     (λ b. put_at_lem S law s (root_in s i) i position word refl h)
     (λ b. refused_keeps S s _ _ h)

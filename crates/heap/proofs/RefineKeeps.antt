@@ -1,26 +1,22 @@
 -- The lowest dirty card is refined. A reference from it into another region needs no dirty card, since the card stands in that
 -- region's table then. Neither that region nor the card's own is free, as objects lie there, so free regions stay vacant.
-use Rattle.std.proofs.Common.{◌≡◌, ℕ, ◌/◌, ◌<◌, ◌≤◌, Bool, true, false, Some, None, Option, sym, refl, ap, ◌∙◌, subst, inl, inr, true≢false, arith}
+use Rattle.std.proofs.Common.{◌≡◌, ℕ, suc, ◌+◌, ◌/◌, ◌<◌, ◌≤◌, true, false, ◌⊎◌, Some, None, Option, sym, refl, ap, ◌∙◌, subst, inl, inr, true≢false, arith}
 use Rattle.bitset.specs.Set.{put, first_of}
 use Rattle.bitset.proofs.Set.{put_same, put_other, first_of_some, first_of_none}
 use Rattle.layout.specs.Shape.{Shape, Lawful}
 use Rattle.marking.specs.Refining.{enter_objects, refine_next, refine_step}
 use Rattle.marking.specs.declared.refining.Refined.TheVariants.{Refined}
-use Rattle.memory.specs.State.{State, with_cards}
+use Rattle.memory.specs.State.{State, word_in, with_cards}
 use Rattle.std.proofs.lemmas.List.{get_or_past}
-use Rattle.std.proofs.lemmas.Bool.{cases_Bool, cases_eq, cases_lt}
+use Rattle.std.proofs.lemmas.Bool.{cases_eq, cases_lt, false_from_ne_true}
 use Rattle.tables.specs.Cards.{cleaned}
 use Rattle.tables.specs.Regions.{blank, is_free, is_free_at}
-use Rattle.heap.specs.Sound.{Sound}
+use Rattle.heap.specs.Sound.{Sound, Vacant}
 use Rattle.heap.specs.Effects.{Outside}
 use Rattle.heap.specs.Steps.{Refers, Refines, Refining}
 use Rattle.heap.proofs.Entering.{Tables, Enters, card-entered}
 use Rattle.heap.proofs.Geometry.{in_use}
 use Rattle.heap.proofs.Keeps.{Keeps, same_outside}
-
--- what would be so is not
-not_so : (b : Bool) → (b ≡ true → ⊥) → b ≡ false
-not_so b no_way = elim (cases_Bool b) [ inl y ↦ absurd (no_way y) | inr y ↦ y ]
 
 module _ {S : Shape} {s : State} (h : Sound S s) where
   -- a card past the last region is clean
@@ -40,7 +36,7 @@ module _ {S : Shape} {s : State} (h : Sound S s) where
 
     -- an entry is an old one, if no object of card d refers to its region
     not_entered : (g c : ℕ) → s.cards.table g c ≡ false → (c ≡ d → Refers S s d g → ⊥) → t g c ≡ false
-    not_entered g c old none = not_so (t g c) (λ y. elim (e.only g c y) [ inl u ↦ true≢false (sym u ∙ old) | inr u ↦ none u.0 u.1 ])
+    not_entered g c old none = false_from_ne_true (t g c) (λ y. elim (e.only g c y) [ inl u ↦ true≢false (sym u ∙ old) | inr u ↦ none u.0 u.1 ])
 
     stays_clean : (c : ℕ) → s.cards.dirty c ≡ false → put s.cards.dirty d false c ≡ false
     stays_clean c z = elim (cases_eq c d) [
@@ -48,49 +44,34 @@ module _ {S : Shape} {s : State} (h : Sound S s) where
       | inr y ↦ put_other s.cards.dirty d false c y ∙ z
     ]
 
-    refined_sound : Sound S after
-    refined_sound =
+    vacant : (g : ℕ) → is_free_at s.regions.entries g ≡ true → Vacant after g
+    vacant g free =
+        let v = h.vacant g free in
         record {
-          rooms = h.rooms;
-          entries = h.entries;
-          whole = h.whole;
-          tiled = h.tiled;
-          headed = h.headed;
-          rooted = h.rooted;
-          linked = h.linked;
-          spared = h.spared;
-          vacant = λ g free.
-              let v = h.vacant g free in
-              record {
-                unused = v.unused;
-                lifeless = v.lifeless;
-                forgetful = λ c.
-                    not_entered g c (v.forgetful c) (λ z r.
-                    not_free g r.target (h.linked r.place r.position r.target r.object r.reference r.word) r.leads free);
-                clean = λ c z. stays_clean c (v.clean c z);
-                forgotten = λ other c z. not_entered other c (v.forgotten other c z) (λ y r. not_free g r.place r.object (omega (arith, r.card)) free);
-              };
-          used = h.used;
-          opened = h.opened;
-          latest = h.latest;
-          carded = λ p i q object reference word far. elim (cases_eq (p / 64) d) [
-            | inl z ↦
-                let r : Refers S s d (q / 1024) = record { place = p; position = i; target = q; object = object; card = z; reference = reference; word = word; leads = refl; other = far } in
-                inr (ap (t (q / 1024)) z ∙ e.all (q / 1024) r)
-            | inr z ↦ elim (h.carded p i q object reference word far) [
-              | inl y ↦ inl (put_other s.cards.dirty d false (p / 64) z ∙ y)
-              | inr y ↦ inr (e.kept (q / 1024) (p / 64) y)
-            ]
-          ];
-          marked = h.marked;
-          awaited = h.awaited;
-          settled = h.settled;
-          unmarked = h.unmarked;
-          weights = h.weights;
-          tallied = h.tallied;
-          living = h.living;
-          weighed = h.weighed;
+          unused = v.unused;
+          lifeless = v.lifeless;
+          forgetful = λ c.
+              not_entered g c (v.forgetful c) (λ z r.
+              not_free g r.target (h.linked r.place r.position r.target r.object r.reference r.word) r.leads free);
+          clean = λ c z. stays_clean c (v.clean c z);
+          forgotten = λ other c z. not_entered other c (v.forgotten other c z) (λ y r. not_free g r.place r.object (omega (arith, r.card)) free);
         }
+
+    carded : (p i q : ℕ) → s.starts p ≡ true → S.reference (word_in s p) i ≡ true → word_in s (p + i) ≡ suc q
+        → (p / 1024 ≡ q / 1024 → ⊥) → (after.cards.dirty (p / 64) ≡ true) ⊎ (t (q / 1024) (p / 64) ≡ true)
+    carded p i q object reference word far = elim (cases_eq (p / 64) d) [
+      | inl z ↦
+          let r : Refers S s d (q / 1024) = record { place = p; position = i; target = q; object = object; card = z; reference = reference; word = word; leads = refl; other = far } in
+          inr (ap (t (q / 1024)) z ∙ e.all (q / 1024) r)
+      | inr z ↦ elim (h.carded p i q object reference word far) [
+        | inl y ↦ inl (put_other s.cards.dirty d false (p / 64) z ∙ y)
+        | inr y ↦ inr (e.kept (q / 1024) (p / 64) y)
+      ]
+    ]
+
+    -- nothing else changes
+    refined_sound : Sound S after
+    refined_sound = assumption (vacant, carded, h)
 
     refined : s.cards.dirty d ≡ true → ((c : ℕ) → c < d → s.cards.dirty c ≡ false) → Refines S s after d
     refined dirty lowest =

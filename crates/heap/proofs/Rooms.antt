@@ -42,9 +42,9 @@ closed_as_free Open = refl
 closed_as_free Closed = refl
 
 closed_not_open : (k : Kind) → closed_kind k ≡ Open → ⊥
-closed_not_open Free e = let z : ◌≡◌ {A = ℕ} 0 1 = cc in omega arith
-closed_not_open Open e = let z : ◌≡◌ {A = ℕ} 0 1 = cc in omega arith
-closed_not_open Closed e = let z : ◌≡◌ {A = ℕ} 0 1 = cc in omega arith
+closed_not_open Free e = grind arith
+closed_not_open Open e = grind arith
+closed_not_open Closed e = grind arith
 
 module _ {S : Shape} {s : State} (d : Sound S s) (n : ℕ) where
   -- in the open region

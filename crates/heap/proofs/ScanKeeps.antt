@@ -7,7 +7,7 @@ use Rattle.marking.specs.Scanning.{scan_field, scan_fields, scanned as scanning}
 use Rattle.memory.specs.Edits.{shaded_old}
 use Rattle.memory.specs.State.{State, word_in, with_marks, with_phase}
 use Rattle.memory.specs.declared.phase.Phase.TheVariants.{Marking}
-use Rattle.std.proofs.lemmas.Bool.{cases_Bool, cases_eq, cond-true, cond-false, ne_eqb}
+use Rattle.std.proofs.lemmas.Bool.{cases_Bool, cases_eq, cond-true, cond-false, ne_eqb, false_from_ne_true}
 use Rattle.std.proofs.lemmas.Bool.Decides.{nat_tests}
 use Rattle.tables.specs.Marks.{Sets as Marks, shaded, finished}
 use Rattle.heap.specs.Sound.{Sound, size_at, scanned}
@@ -107,13 +107,10 @@ module _ {S : Shape} (law : Lawful S) {s : State} (h : Sound S s) (p : ℕ) (obj
             phase = refl;
             waited = waited;
             lowest = lowest;
-            finished = elim (cases_Bool (l.pending p)) [
-              | inl y ↦ elim (d.no_more p y) [
-                | inl u ↦ absurd ((put_out s.marks.pending p p u).1 refl)
-                | inr u ↦ absurd (true≢false (sym (h.awaited p waited) ∙ u.0))
-              ]
-              | inr y ↦ y
-            ];
+            finished = false_from_ne_true _ (λ y. elim (d.no_more p y) [
+              | inl u ↦ (put_out s.marks.pending p p u).1 refl
+              | inr u ↦ true≢false (sym (h.awaited p waited) ∙ u.0)
+            ]);
             named = λ i q r e. d.all q (i, omega (arith, (law.inside (word_in s p) i r).1), r, e);
             kept = d.kept;
             awaits = λ q e ne. d.awaits q (put_in s.marks.pending p q e ne);

@@ -3,11 +3,13 @@
 use Rattle.std.proofs.Common.{◌≡◌, ℕ, ◌*◌, ◌<◌, Bool, true, false, cond, not, ◌&&◌, ◌⊎◌, length, get_or, sym, refl, ap, ◌∙◌, subst, inl, inr, true≢false, arith}
 use Rattle.layout.specs.Shape.{Shape}
 use Rattle.memory.specs.State.{State, with_marks, with_phase}
-use Rattle.memory.specs.declared.phase.Phase.TheVariants.{Marking}
-use Rattle.std.proofs.lemmas.Bool.{cases_Bool}
+use Rattle.memory.specs.declared.phase.Phase.{Phase}
+use Rattle.memory.specs.declared.phase.Phase.TheVariants.{Idle, Marking, Marked}
+use Rattle.std.proofs.lemmas.Bool.{false_from_ne_true}
 use Rattle.bitset.specs.Set.{joined}
 use Rattle.tables.specs.Marks.{Sets as Marks, shaded}
-use Rattle.heap.specs.Sound.{Sound, size_at}
+use Rattle.tables.specs.Regions.{is_free_at}
+use Rattle.heap.specs.Sound.{Sound, Vacant, region, size_at}
 use Rattle.heap.specs.Effects.{Outside}
 use Rattle.heap.specs.Steps.{SameObjects}
 use Rattle.heap.proofs.Joined.{joined_has, joined_keeps, joined_is}
@@ -63,7 +65,7 @@ shades_more {Named} {Also} {m} {n} h p low more new either = go (n.marked p) ref
 
     -- what is marked now was not marked at first, if it was not marked just before
     not_before : n.marked p ≡ false → m.marked p ≡ false
-    not_before z = elim (cases_Bool (m.marked p)) [ inl y ↦ absurd (true≢false (sym (h.kept p y) ∙ z)) | inr y ↦ y ]
+    not_before z = false_from_ne_true _ (λ y. true≢false (sym (h.kept p y) ∙ z))
 
     fresh : n.marked p ≡ false → Shades Also m next
     fresh z =
@@ -86,6 +88,10 @@ shades_more {Named} {Also} {m} {n} h p low more new either = go (n.marked p) ref
     go true z = shades_same h more (λ q e. elim (either q e) [ inl y ↦ h.all q y | inr y ↦ ap n.marked y ∙ z ])
     go false z = fresh z
 
+-- one is shaded
+pub one_shaded : (m : Marks) (p : ℕ) → p < 32768 → Shades (λ q. q ≡ p) m (shaded m p)
+one_shaded m p low = shades_more (shades_none (λ q. ⊥) m (λ q e. e)) p low (λ q e. absurd e) refl (λ q e. inr e)
+
 -- where what is pending is marked, that stays so, and what is marked and not pending is the same
 module _ {Named : ℕ → Type 0} {m n : Marks} (h : Shades Named m n) (among : (q : ℕ) → m.pending q ≡ true → m.marked q ≡ true) where
   pub shades_among : (q : ℕ) → n.pending q ≡ true → n.marked q ≡ true
@@ -104,29 +110,11 @@ pub marking_sound : {S : Shape} {s : State} → Sound S s → (m : Marks)
     → length m.weights ≡ 32 → ((g : ℕ) → get_or m.weights g 0 ≡ weight_of S s (λ p. m.marked p && not (m.pending p)) g)
     → Sound S (with_phase (with_marks s m) Marking)
 marking_sound {S} {s} h m objects among many each =
-    record {
-      rooms = h.rooms;
-      entries = h.entries;
-      whole = h.whole;
-      tiled = h.tiled;
-      headed = h.headed;
-      rooted = h.rooted;
-      linked = h.linked;
-      spared = h.spared;
-      vacant = λ g e. let v = h.vacant g e in record { unused = v.unused; lifeless = v.lifeless; forgetful = v.forgetful; clean = v.clean; forgotten = v.forgotten };
-      used = h.used;
-      opened = h.opened;
-      latest = h.latest;
-      carded = h.carded;
-      marked = objects;
-      awaited = among;
-      settled = λ not p. absurd (not refl);
-      unmarked = λ idle p. absurd (let z : ◌≡◌ {A = ℕ} 0 1 = cc in omega arith);
-      weights = many;
-      tallied = λ e. each;
-      living = h.living;
-      weighed = λ done g. absurd (let z : ◌≡◌ {A = ℕ} 0 1 = cc in omega arith);
-    }
+    let vacant : (g : ℕ) → is_free_at s.regions.entries g ≡ true → Vacant (with_phase (with_marks s m) Marking) g = λ g e. let v = h.vacant g e in assumption v in
+    let settled : (◌≡◌ {A = Phase} Marking Marking → ⊥) → (p : ℕ) → m.pending p ≡ false = λ not p. absurd (not refl) in
+    let unmarked : ◌≡◌ {A = Phase} Marking Idle → (p : ℕ) → m.marked p ≡ false = λ idle p. absurd (grind arith) in
+    let weighed : ◌≡◌ {A = Phase} Marking Marked → (g : ℕ) → (region s g).live ≡ weight_of S s m.marked g = λ done g. absurd (grind arith) in
+    assumption h
 
 -- from marks whose weights hold, objects are shaded
 pub shaded_sound : {S : Shape} {s : State} {Named : ℕ → Type 0} {m n : Marks} → Sound S s → Shades Named m n
