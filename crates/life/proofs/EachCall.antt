@@ -39,10 +39,9 @@ use Rattle.model.proofs.Views.{tied_looks}
 use Rattle.std.proofs.lemmas.Bool.{false≢true}
 use Rattle.life.specs.declared.calls.Call.{Call}
 use Rattle.life.specs.declared.calls.Call.TheVariants.{Edit as Asked, Begin, Mark, Refine}
-use Rattle.life.specs.declared.calls.Answer.TheVariants.{Edit as Replied}
-use Rattle.life.specs.Serving.{edited, served, begun_answer, mark_answer, refine_answer}
+use Rattle.life.specs.Serving.{granted, word_answered, same_answered, edited, edit_answer, served, begun_answer, mark_answer, refine_answer}
 use Rattle.life.specs.Snapshot.{scan_count_of}
-use Rattle.life.specs.Faithful.{lacking, replies, told, Both, serving, number_on, beginning, marking, scans_on}
+use Rattle.life.specs.Faithful.{lacking, heard_of, seen_of, replies, told, Both, serving, number_on, beginning, marking, scans_on}
 use Rattle.life.proofs.Agree.{Agree}
 use Rattle.life.proofs.Answering.{never_lacks, peek-same, head-same, same-same, peek_still, head_still, same_still}
 use Rattle.life.proofs.BeginFacts.{facts_begin}
@@ -60,17 +59,30 @@ use Rattle.life.proofs.Roots.{get_alike, copy_alike, clear_alike}
 use Rattle.life.proofs.Words.{set_alike, put_alike}
 use Rattle.life.proofs.Runs.{Sure, OneCall}
 
+-- what an edit's answer tells, by whether it was refused for want of space
+seen_edit : (e : Edit) (r : Result Reply Refusal) (rs : List (Result Reply Refusal)) → seen_of (Asked e) (edit_answer r) rs ≡ cond (lacking r) rs (r ∷ rs)
+seen_edit e (Ok r) rs = refl
+seen_edit e (Err why) rs = refl
+
+heard_edit : (e : Edit) (r : Result Reply Refusal) (es : List Edit) → heard_of (Asked e) (edit_answer r) es ≡ cond (lacking r) es (e ∷ es)
+heard_edit e (Ok r) es = refl
+heard_edit e (Err why) es = refl
+
+count_edit : (r : Result Reply Refusal) (n : ℕ) → scan_count_of (edit_answer r) n ≡ n
+count_edit (Ok r) n = refl
+count_edit (Err why) n = refl
+
 module _ {S : Shape} (law : Lawful S) where
   pub edit_outcome : (s : State) (m : Content) (ν : ℕ → ℕ) → Agree S s m ν → (e : Edit) → Outcome S m ν e (edited S s e) (model_edited S m e)
   edit_outcome s m ν a (New root h) = new_outcome law a root h (new_keeps S law s root h a.sound)
-  edit_outcome s m ν a (Set i position k) = let x = set_alike law a i position k (set_keeps S law s i position k a.sound) in heard x.0 x.1
-  edit_outcome s m ν a (Get i position k) = let x = get_alike law a i position k (get_keeps S s i position k a.sound) in heard x.0 x.1
-  edit_outcome s m ν a (Put i position word) = let x = put_alike law a i position word (put_keeps S law s i position word a.sound) in heard x.0 x.1
-  edit_outcome s m ν a (Peek i position) = heard (peek-same a i position) (subst (λ q. Agree S s q ν) (sym (peek_still S m i position)) a)
-  edit_outcome s m ν a (Copy i k) = let x = copy_alike law a i k (copy_keeps S s i k a.sound) in heard x.0 x.1
-  edit_outcome s m ν a (Clear i) = let x = clear_alike law a i (clear_keeps S s i a.sound) in heard x.0 x.1
-  edit_outcome s m ν a (Same i k) = heard (same-same a i k) (subst (λ q. Agree S s q ν) (sym (same_still m i k)) a)
-  edit_outcome s m ν a (Head i) = heard (head-same a i) (subst (λ q. Agree S s q ν) (sym (head_still m i)) a)
+  edit_outcome s m ν a (Set i position k) = let x = set_alike law a i position k (set_keeps S law s i position k a.sound) in heard (ap granted x.0) x.1
+  edit_outcome s m ν a (Get i position k) = let x = get_alike law a i position k (get_keeps S s i position k a.sound) in heard (ap granted x.0) x.1
+  edit_outcome s m ν a (Put i position word) = let x = put_alike law a i position word (put_keeps S law s i position word a.sound) in heard (ap granted x.0) x.1
+  edit_outcome s m ν a (Peek i position) = heard (ap word_answered (peek-same a i position)) (subst (λ q. Agree S s q ν) (sym (peek_still S m i position)) a)
+  edit_outcome s m ν a (Copy i k) = let x = copy_alike law a i k (copy_keeps S s i k a.sound) in heard (ap granted x.0) x.1
+  edit_outcome s m ν a (Clear i) = let x = clear_alike law a i (clear_keeps S s i a.sound) in heard (ap granted x.0) x.1
+  edit_outcome s m ν a (Same i k) = heard (ap same_answered (same-same a i k)) (subst (λ q. Agree S s q ν) (sym (same_still m i k)) a)
+  edit_outcome s m ν a (Head i) = heard (ap word_answered (head-same a i)) (subst (λ q. Agree S s q ν) (sym (head_still m i)) a)
 
   edit_outside : (s : State) → Sound S s → (e : Edit) → Outside s (edited S s e).1
   edit_outside s h (New root header) = (new_keeps S law s root header h).outside
@@ -95,35 +107,35 @@ module _ {S : Shape} (law : Lawful S) where
   edit_edits s m ν a (New root h) = new_edits law a root h (new_keeps S law s root h a.sound)
   edit_edits s m ν a (Set i position k) =
       let keep = set_keeps S law s i position k a.sound in
-      hears_it s m ν (Set i position k) (set_alike law a i position k keep).0 (set_edits law a i position k keep)
+      hears_it s m ν (Set i position k) (ap granted (set_alike law a i position k keep).0) (set_edits law a i position k keep)
   edit_edits s m ν a (Get i position k) =
       let keep = get_keeps S s i position k a.sound in
-      hears_it s m ν (Get i position k) (get_alike law a i position k keep).0 (get_edits a i position k keep)
+      hears_it s m ν (Get i position k) (ap granted (get_alike law a i position k keep).0) (get_edits a i position k keep)
   edit_edits s m ν a (Put i position word) =
       let keep = put_keeps S law s i position word a.sound in
-      hears_it s m ν (Put i position word) (put_alike law a i position word keep).0 (put_edits law a i position word keep)
-  edit_edits s m ν a (Peek i position) = hears_it s m ν (Peek i position) (peek-same a i position) (peek_edits S s m ν i position)
+      hears_it s m ν (Put i position word) (ap granted (put_alike law a i position word keep).0) (put_edits law a i position word keep)
+  edit_edits s m ν a (Peek i position) = hears_it s m ν (Peek i position) (ap word_answered (peek-same a i position)) (peek_edits S s m ν i position)
   edit_edits s m ν a (Copy i k) =
       let keep = copy_keeps S s i k a.sound in
-      hears_it s m ν (Copy i k) (copy_alike law a i k keep).0 (copy_edits a i k keep)
+      hears_it s m ν (Copy i k) (ap granted (copy_alike law a i k keep).0) (copy_edits a i k keep)
   edit_edits s m ν a (Clear i) =
       let keep = clear_keeps S s i a.sound in
-      hears_it s m ν (Clear i) (clear_alike law a i keep).0 (clear_edits a i keep)
-  edit_edits s m ν a (Same i k) = hears_it s m ν (Same i k) (same-same a i k) (same_roots_edits S s m ν i k)
-  edit_edits s m ν a (Head i) = hears_it s m ν (Head i) (head-same a i) (head_edits S s m ν i)
+      hears_it s m ν (Clear i) (ap granted (clear_alike law a i keep).0) (clear_edits a i keep)
+  edit_edits s m ν a (Same i k) = hears_it s m ν (Same i k) (ap same_answered (same-same a i k)) (same_roots_edits S s m ν i k)
+  edit_edits s m ν a (Head i) = hears_it s m ν (Head i) (ap word_answered (head-same a i)) (head_edits S s m ν i)
 
   -- an edit, by whether it lacks space
-  record EditCall (b : Both) (e : Edit) (p : Reply × State) (lacks : Bool) (d : Both) : Type 0 where
+  record EditCall (b : Both) (e : Edit) (p : Result Reply Refusal × State) (lacks : Bool) (d : Both) : Type 0 where
     sure : Sure S d
     heap : d.heap ≡ p.1
-    replied : (rs : List Reply) (es : List Edit) → rs ≡ replies S d.model es → cond lacks rs (p.0 ∷ rs) ≡ replies S b.model (cond lacks es (e ∷ es))
+    replied : (rs : List (Result Reply Refusal)) (es : List Edit) → rs ≡ replies S d.model es → cond lacks rs (p.0 ∷ rs) ≡ replies S b.model (cond lacks es (e ∷ es))
     hears : (es : List Edit) → told S d.model es ≡ told S b.model (cond lacks es (e ∷ es))
     counts : length d.scans ≡ length b.scans
 
-  edit_call : (b : Both) → Sure S b → (e : Edit) → OneCall S b (Asked e) (Replied (edited S b.heap e).0) (edited S b.heap e).1 (serving S b (Asked e))
+  edit_call : (b : Both) → Sure S b → (e : Edit) → OneCall S b (Asked e) (edit_answer (edited S b.heap e).0) (edited S b.heap e).1 (serving S b (Asked e))
   edit_call b a e = whole (go (edit_outcome b.heap b.model b.number a.agree e))
     where
-      p : Reply × State
+      p : Result Reply Refusal × State
       p = edited S b.heap e
 
       unheard : Both
@@ -156,14 +168,14 @@ module _ {S : Shape} (law : Lawful S) where
             counts = refl;
           })
 
-      whole : EditCall b e p (lacking p.0) (cond (lacking p.0) unheard hearing_it) → OneCall S b (Asked e) (Replied p.0) p.1 (serving S b (Asked e))
+      whole : EditCall b e p (lacking p.0) (cond (lacking p.0) unheard hearing_it) → OneCall S b (Asked e) (edit_answer p.0) p.1 (serving S b (Asked e))
       whole x = record {
         sure = x.sure;
         heap = x.heap;
         outside = edit_outside b.heap a.agree.sound e;
-        replied = x.replied;
-        hears = x.hears;
-        counts = x.counts;
+        replied = λ rs es r. seen_edit e p.0 rs ∙ x.replied rs es r ∙ ap (replies S b.model) (sym (heard_edit e p.0 es));
+        hears = λ es. x.hears es ∙ ap (told S b.model) (sym (heard_edit e p.0 es));
+        counts = x.counts ∙ sym (count_edit p.0 (length b.scans));
       }
 
   -- where objects and roots are the same, so is the agreement
@@ -268,12 +280,8 @@ module _ {S : Shape} (law : Lawful S) where
       after_it : State → Both
       after_it t = record { heap = t; model = b.model; number = b.number; snapshot = b.snapshot; scans = b.scans }
 
-      counted : (r : Refinement) → length b.scans ≡ scan_count_of (refine_answer r) (length b.scans)
-      counted OneRefined = refl
-      counted AllClean = refl
-
       one : (x : Refinement × State) → Outside b.heap x.1 → Sure S (after_it x.1) → OneCall S b Refine (refine_answer x.0) x.1 (after_it x.1)
-      one x o z = record { sure = z; heap = refl; outside = o; replied = λ rs es r. r; hears = λ es. refl; counts = counted x.0 }
+      one x o z = record { sure = z; heap = refl; outside = o; replied = λ rs es r. r; hears = λ es. refl; counts = refl }
 
       go : (x : Refinement × State) → Holds S b.heap (λ t r. Refining S b.heap t r) x → OneCall S b Refine (refine_answer x.0) x.1 (after_it x.1)
       go (OneRefined, t) h =

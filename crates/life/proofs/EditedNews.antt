@@ -1,6 +1,6 @@
 -- new makes an object under the next number, which a root then holds; it names nothing, and unless the phase is idle it is marked
 -- and not pending. Where the heap lacks space it alters nothing, and the other does not hear of it.
-use Rattle.std.proofs.Common.{◌≡◌, ℕ, suc, ◌+◌, ◌-◌, ◌<◌, ◌≤◌, true, false, cond, eqb, ltb, ◌⊎◌, length, get_or, replicate, Some, None, Option, Result, sym, ◌∙◌, subst, inl, inr, arith}
+use Rattle.std.proofs.Common.{◌≡◌, ℕ, suc, ◌+◌, ◌-◌, ◌<◌, ◌≤◌, true, false, cond, eqb, ltb, ◌⊎◌, length, get_or, replicate, Some, None, Ok, Option, Result, sym, ◌∙◌, subst, inl, inr, arith}
 use Rattle.image.specs.Content.{Content}
 use Rattle.heap.specs.Effects.{graph_of as heap_graph, Made, Births, Makes}
 use Rattle.heap.proofs.Keeps.{Keeps}
@@ -29,7 +29,7 @@ use Rattle.life.proofs.Facts.{Named, Edits}
 use Rattle.life.proofs.News.{made_looks}
 
 -- what new does, p in the heap and q in the other: nothing, for want of space, or the same in both
-abbrev pub NewEdits : Shape → State → Content → (ℕ → ℕ) → ℕ → ℕ → Reply × State → Reply × Content → Type 0
+abbrev pub NewEdits : Shape → State → Content → (ℕ → ℕ) → ℕ → ℕ → Result Reply Refusal × State → Result (Unit {0}) Refusal × Content → Type 0
 NewEdits S s m ν root h p q =
     (lacking p.0 ≡ true → Edits S s p.1 m m ν ν)
     × (lacking p.0 ≡ false → Edits S s p.1 m q.1 ν (number_on ν (length m.objects) (New root h) p))
@@ -38,7 +38,7 @@ module _ {S : Shape} (law : Lawful S) {s : State} {m : Content} {ν : ℕ → �
   abbrev n : ℕ
   n = length m.objects
 
-  made_edits : (t : State) → root < 64 → S.legal h ≡ true → (p : ℕ) → Made S s t root h p → Births s t p (S.size h) → Edits S s t m (with_root (with_object S m h) root (suc n)) ν (number_new ν n root t Granted)
+  made_edits : (t : State) → root < 64 → S.legal h ≡ true → (p : ℕ) → Made S s t root h p → Births s t p (S.size h) → Edits S s t m (with_root (with_object S m h) root (suc n)) ν (number_new ν n root t (Ok Granted))
   made_edits t l legal p x y = record {
     phase = y.phase;
     grown = omega (arith, longer);
@@ -92,13 +92,13 @@ module _ {S : Shape} (law : Lawful S) {s : State} {m : Content} {ν : ℕ → �
           here : cond (eqb root root) (suc p) (reference_to (get_or s.roots root None)) ≡ suc p
           here = grind (arith, nat_tests)
 
-      number-new : (q : ℕ) → q ≡ p → number_new ν n root t Granted q ≡ n
+      number-new : (q : ℕ) → q ≡ p → number_new ν n root t (Ok Granted) q ≡ n
       number-new q e = tidy (reference_to (root_in t root)) holds
         where
           tidy : (r : ℕ) → r ≡ suc p → cond (eqb r (suc q)) n (ν q) ≡ n
           tidy r d = grind (arith, nat_tests)
 
-      number_old : (q : ℕ) → (q ≡ p → ⊥) → number_new ν n root t Granted q ≡ ν q
+      number_old : (q : ℕ) → (q ≡ p → ⊥) → number_new ν n root t (Ok Granted) q ≡ ν q
       number_old q e = tidy (reference_to (root_in t root)) holds
         where
           tidy : (r : ℕ) → r ≡ suc p → cond (eqb r (suc q)) n (ν q) ≡ ν q
@@ -137,10 +137,10 @@ module _ {S : Shape} (law : Lawful S) {s : State} {m : Content} {ν : ℕ → �
     ]
   ]
     where
-      through : {x x' : Result (Unit {0}) Refusal × State} {q q' : Reply × Content} → x' ≡ x → q' ≡ q → NewEdits S s m ν root h (altering x) q → NewEdits S s m ν root h (altering x') q'
+      through : {x x' : Result (Unit {0}) Refusal × State} {q q' : Result (Unit {0}) Refusal × Content} → x' ≡ x → q' ≡ q → NewEdits S s m ν root h (altering x) q → NewEdits S s m ν root h (altering x') q'
       through {x} {x'} {q} {q'} e d o = subst (λ y. NewEdits S s m ν root h (altering y) q') (sym e) (subst (λ z. NewEdits S s m ν root h (altering x) z) (sym d) o)
 
-      at : root < 64 → S.legal h ≡ true → (x : Option ℕ × Regions) → new_object S s root h ≡ new_at s root h (S.size h) x → new S m root h ≡ (Granted, with_root (with_object S m h) root (suc n)) → NewEdits S s m ν root h (altering (new_object S s root h)) (new S m root h)
+      at : root < 64 → S.legal h ≡ true → (x : Option ℕ × Regions) → new_object S s root h ≡ new_at s root h (S.size h) x → new S m root h ≡ (Ok tt, with_root (with_object S m h) root (suc n)) → NewEdits S s m ν root h (altering (new_object S s root h)) (new S m root h)
       at l f (None, r) E D =
           let x = subst (Keeps S s (λ t r. Makes S s t root h r)) E keep in
           through E D (λ o. subst (λ t. Edits S s t m m ν ν) (sym x.effect) (same_edits S s m ν), λ o. absurd (false≢true (sym o)))

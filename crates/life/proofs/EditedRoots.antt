@@ -1,6 +1,6 @@
 -- get, copy and clear change a root and nothing else: no mark and no word of an object changes, and the root then holds nil, what
 -- a root held, or what a reference of an object held by a root named.
-use Rattle.std.proofs.Common.{◌≡◌, ℕ, suc, ◌+◌, ◌<◌, ◌≤◌, Bool, true, cond, ◌&&◌, eqb, ltb, ◌⊎◌, length, get_or, Some, None, Ok, Err, Option, sym, refl, ap, ◌∙◌, subst, inl, inr, arith}
+use Rattle.std.proofs.Common.{◌≡◌, ℕ, suc, ◌+◌, ◌<◌, ◌≤◌, Bool, true, cond, ◌&&◌, eqb, ltb, ◌⊎◌, length, get_or, Some, None, Ok, Err, Result, Option, sym, refl, ap, ◌∙◌, subst, inl, inr, arith}
 use Rattle.image.specs.Content.{Content}
 use Rattle.heap.specs.Effects.{Held, SameMarks, Gets, Copies, Clears}
 use Rattle.heap.proofs.Keeps.{Keeps}
@@ -8,9 +8,8 @@ use Rattle.layout.specs.Shape.{Shape}
 use Rattle.memory.specs.State.{State, word_in, root_in, with_root as with_heap_root}
 use Rattle.memory.specs.Edits.{named_by, get_reference, get_at, copy_root, clear_root}
 use Rattle.model.specs.Edits.{held, numbered, word_at, with_root, get_reference as model_get, copy, clear}
+use Rattle.model.specs.declared.edits.Refusal.{Refusal}
 use Rattle.model.specs.declared.edits.Refusal.TheVariants.{WrongPosition}
-use Rattle.model.specs.declared.edits.Reply.{Reply}
-use Rattle.model.specs.declared.edits.Reply.TheVariants.{Granted, Refused}
 use Rattle.model.proofs.Contents.{set_tells}
 use Rattle.std.proofs.lemmas.Bool.Decides.{nat_tests}
 use Rattle.std.proofs.lemmas.Bool.{cases_Bool, cases_eq, cond-true, cond-false, ltb-true, and_parts, both_ways}
@@ -70,8 +69,8 @@ module _ {S : Shape} {s : State} {m : Content} {ν : ℕ → ℕ} (a : Agree S s
     | inl e ↦ at e (at_root a i)
   ]
     where
-      done : Reply × Content
-      done = cond (S.reference (numbered m (held m i)).header position) (Granted, with_root m k (word_at (numbered m (held m i)) position)) (Refused WrongPosition, m)
+      done : Result (Unit {0}) Refusal × Content
+      done = cond (S.reference (numbered m (held m i)).header position) (Ok tt, with_root m k (word_at (numbered m (held m i)) position)) (Err WrongPosition, m)
 
       at : (ltb i 64 && ltb k 64) ≡ true → At s m ν i → Edits S s (get_reference S s i position k).1 m (model_get S m i position k).1 ν ν
       at e (none n z) = edits_as (cond-true _ _ _ e ∙ ap (λ o. get_at S s o position k) n) (cond-true _ _ _ e ∙ of_nil m i done z) (same_edits S s m ν)

@@ -6,7 +6,6 @@ use Rattle.layout.specs.Shape.{Shape}
 use Rattle.memory.specs.State.{State}
 use Rattle.model.specs.Edits.{peek, same, head}
 use Rattle.model.specs.declared.edits.Refusal.{Refusal}
-use Rattle.model.specs.declared.edits.Reply.{Reply}
 use Rattle.std.proofs.lemmas.Bool.{both_ways}
 use Rattle.life.proofs.Answering.{peek_still, same_still, head_still}
 use Rattle.life.proofs.Facts.{Edits}
@@ -38,5 +37,5 @@ pub head_edits : (S : Shape) (s : State) (m : Content) (ν : ℕ → ℕ) (i : �
 head_edits S s m ν i = subst (λ x. Edits S s s m x ν ν) (sym (head_still m i)) (same_edits S s m ν)
 
 -- an edit that is defined by tests does what it does where they are settled, p in the heap and q in the other
-pub edits_as : {S : Shape} {s : State} {m : Content} {ν ν' : ℕ → ℕ} {p p' : Result (Unit {0}) Refusal × State} {q q' : Reply × Content} → p' ≡ p → q' ≡ q → Edits S s p.1 m q.1 ν ν' → Edits S s p'.1 m q'.1 ν ν'
+pub edits_as : {S : Shape} {s : State} {m : Content} {ν ν' : ℕ → ℕ} {p p' : Result (Unit {0}) Refusal × State} {q q' : Result (Unit {0}) Refusal × Content} → p' ≡ p → q' ≡ q → Edits S s p.1 m q.1 ν ν' → Edits S s p'.1 m q'.1 ν ν'
 edits_as {S} {s} {m} {ν} {ν'} {p} {p'} {q} {q'} e d x = subst (λ y. Edits S s y.1 m q'.1 ν ν') (sym e) (subst (λ z. Edits S s p.1 m z.1 ν ν') (sym d) x)

@@ -1,6 +1,6 @@
 -- set and put write one word of an object that a root holds. While marking, set marks what the old reference named, and the new
 -- reference is one that a root holds; put writes no reference.
-use Rattle.std.proofs.Common.{◌≡◌, ℕ, suc, ◌+◌, ◌-◌, ◌<◌, ◌≤◌, Bool, true, cond, ◌&&◌, eqb, ltb, ◌⊎◌, set, Some, Ok, Err, sym, refl, ap, ◌∙◌, subst, inl, inr, arith}
+use Rattle.std.proofs.Common.{◌≡◌, ℕ, suc, ◌+◌, ◌-◌, ◌<◌, ◌≤◌, Bool, true, cond, ◌&&◌, eqb, ltb, ◌⊎◌, set, Some, Ok, Err, Result, sym, refl, ap, ◌∙◌, subst, inl, inr, arith}
 use Rattle.image.specs.Content.{Content}
 use Rattle.heap.specs.Effects.{Wrote, Guards, SameMarks, Sets, Puts}
 use Rattle.heap.specs.Sound.{Sound}
@@ -10,9 +10,8 @@ use Rattle.memory.specs.State.{State, word_in, root_in, with_word as with_heap_w
 use Rattle.memory.specs.Edits.{reference_to, set_reference, set_at, storing, put_word, put_at}
 use Rattle.memory.specs.declared.phase.Phase.TheVariants.{Marking}
 use Rattle.model.specs.Edits.{held, object_at, numbered, word_at, with_word, set_reference as model_set, put_word as model_put, graph_of as model_graph}
+use Rattle.model.specs.declared.edits.Refusal.{Refusal}
 use Rattle.model.specs.declared.edits.Refusal.TheVariants.{WrongPosition}
-use Rattle.model.specs.declared.edits.Reply.{Reply}
-use Rattle.model.specs.declared.edits.Reply.TheVariants.{Granted, Refused}
 use Rattle.model.proofs.Changes.{write}
 use Rattle.model.proofs.Contents.{word_equal}
 use Rattle.model.proofs.Views.{Equal, plain-inside}
@@ -102,8 +101,8 @@ module _ {S : Shape} (law : Lawful S) {s : State} {m : Content} {ν : ℕ → �
     | inl e ↦ at e (at_root a i)
   ]
     where
-      done : Reply × Content
-      done = cond (S.reference (numbered m (held m i)).header position) (Granted, with_word m (held m i) position (held m k)) (Refused WrongPosition, m)
+      done : Result (Unit {0}) Refusal × Content
+      done = cond (S.reference (numbered m (held m i)).header position) (Ok tt, with_word m (held m i) position (held m k)) (Err WrongPosition, m)
 
       at : (ltb i 64 && ltb k 64) ≡ true → At s m ν i → Edits S s (set_reference S s i position k).1 m (model_set S m i position k).1 ν ν
       at e (none n z) = edits_as (cond-true _ _ _ e ∙ ap (λ o. set_at S s o position (reference_to (root_in s k))) n) (cond-true _ _ _ e ∙ of_nil m i done z) (same_edits S s m ν)
@@ -148,8 +147,8 @@ module _ {S : Shape} (law : Lawful S) {s : State} {m : Content} {ν : ℕ → �
     | inl e ↦ at e (at_root a i)
   ]
     where
-      done : Reply × Content
-      done = cond (plain S (numbered m (held m i)).header position) (Granted, with_word m (held m i) position word) (Refused WrongPosition, m)
+      done : Result (Unit {0}) Refusal × Content
+      done = cond (plain S (numbered m (held m i)).header position) (Ok tt, with_word m (held m i) position word) (Err WrongPosition, m)
 
       at : ltb i 64 ≡ true → At s m ν i → Edits S s (put_word S s i position word).1 m (model_put S m i position word).1 ν ν
       at e (none n z) = edits_as (cond-true _ _ _ e ∙ ap (λ o. put_at S s o position word) n) (cond-true _ _ _ e ∙ of_nil m i done z) (same_edits S s m ν)

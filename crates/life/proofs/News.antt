@@ -1,6 +1,6 @@
 -- new makes an object in both, under the next number there: the two go on agreeing. Where the heap lacks space it alters
 -- nothing, and the other does not hear of it.
-use Rattle.std.proofs.Common.{◌≡◌, ℕ, suc, ◌+◌, ◌<◌, Bool, true, false, cond, eqb, ltb, ◌⊎◌, length, get_or, Some, None, Option, Result, sym, refl, ap, ◌∙◌, subst, inl, inr, arith}
+use Rattle.std.proofs.Common.{◌≡◌, ℕ, suc, ◌+◌, ◌<◌, Bool, true, false, cond, eqb, ltb, ◌⊎◌, length, get_or, Some, None, Ok, Option, Result, sym, refl, ap, ◌∙◌, subst, inl, inr, arith}
 use mathlib.Core.Path.{fun_ext}
 use Rattle.image.specs.Content.{Content}
 use Rattle.heap.specs.Effects.{graph_of as heap_graph, Made, Makes}
@@ -11,7 +11,7 @@ use Rattle.layout.specs.Shape.{Shape, Lawful}
 use Rattle.memory.specs.State.{State, word_in, root_in, with_regions, with_root as with_heap_root}
 use Rattle.memory.specs.Edits.{reference_to}
 use Rattle.memory.specs.Objects.{new_object, new_at, born, laid}
-use Rattle.model.specs.Edits.{with_object, with_root, new, graph_of as model_graph}
+use Rattle.model.specs.Edits.{with_object, with_root, altering as model_altering, new, graph_of as model_graph}
 use Rattle.model.specs.Tied.{Tied}
 use Rattle.model.specs.declared.edits.Edit.{Edit}
 use Rattle.model.specs.declared.edits.Edit.TheVariants.{New}
@@ -32,7 +32,7 @@ use Rattle.life.specs.Serving.{altering}
 use Rattle.life.proofs.Agree.{Agree}
 
 -- how an edit ends, p in the heap and q in the other: for want of space, or alike
-pub data Outcome (S : Shape) (m : Content) (ν : ℕ → ℕ) (e : Edit) (p : Reply × State) (q : Reply × Content) : Type 0 where
+pub data Outcome (S : Shape) (m : Content) (ν : ℕ → ℕ) (e : Edit) (p : Result Reply Refusal × State) (q : Result Reply Refusal × Content) : Type 0 where
   lacked : lacking p.0 ≡ true → Agree S p.1 m ν → Outcome S m ν e p q
   heard : p.0 ≡ q.0 → Agree S p.1 q.1 (number_on ν (length m.objects) e p) → Outcome S m ν e p q
 
@@ -71,7 +71,7 @@ module _ {S : Shape} (law : Lawful S) {s : State} {m : Content} {ν : ℕ → �
   abbrev n : ℕ
   n = length m.objects
 
-  made_agree : (t : State) → root < 64 → S.legal h ≡ true → Sound S t → (p : ℕ) → Made S s t root h p → Agree S t (with_root (with_object S m h) root (suc n)) (number_new ν n root t Granted)
+  made_agree : (t : State) → root < 64 → S.legal h ≡ true → Sound S t → (p : ℕ) → Made S s t root h p → Agree S t (with_root (with_object S m h) root (suc n)) (number_new ν n root t (Ok Granted))
   made_agree t l legal sound p x = record {
     sound = sound;
     whole = new-whole a.whole h root l law legal;
@@ -85,13 +85,13 @@ module _ {S : Shape} (law : Lawful S) {s : State} {m : Content} {ν : ℕ → �
           here : cond (eqb root root) (suc p) (reference_to (get_or s.roots root None)) ≡ suc p
           here = grind (arith, nat_tests)
 
-      numbers : renumbered ν p n ≡ number_new ν n root t Granted
+      numbers : renumbered ν p n ≡ number_new ν n root t (Ok Granted)
       numbers = fun_ext (λ q. tidy q (reference_to (root_in t root)) holds)
         where
           tidy : (q r : ℕ) → r ≡ suc p → cond (eqb q p) n (ν q) ≡ cond (eqb r (suc q)) n (ν q)
           tidy q r e = grind (arith, nat_tests)
 
-  pub new_outcome : Keeps S s (λ t r. Makes S s t root h r) (new_object S s root h) → Outcome S m ν (New root h) (altering (new_object S s root h)) (new S m root h)
+  pub new_outcome : Keeps S s (λ t r. Makes S s t root h r) (new_object S s root h) → Outcome S m ν (New root h) (altering (new_object S s root h)) (model_altering (new S m root h))
   new_outcome keep = elim (cases_Bool (ltb root 64)) [
     | inr e ↦ through (cond-false _ _ _ e) (cond-false _ _ _ e) (heard refl a)
     | inl e ↦ elim (cases_Bool (S.legal h)) [
@@ -100,10 +100,10 @@ module _ {S : Shape} (law : Lawful S) {s : State} {m : Content} {ν : ℕ → �
     ]
   ]
     where
-      through : {x x' : Result (Unit {0}) Refusal × State} {q q' : Reply × Content} → x' ≡ x → q' ≡ q → Outcome S m ν (New root h) (altering x) q → Outcome S m ν (New root h) (altering x') q'
-      through {x} {x'} {q} {q'} e d o = subst (λ y. Outcome S m ν (New root h) (altering y) q') (sym e) (subst (λ z. Outcome S m ν (New root h) (altering x) z) (sym d) o)
+      through : {x x' : Result (Unit {0}) Refusal × State} {q q' : Result (Unit {0}) Refusal × Content} → x' ≡ x → q' ≡ q → Outcome S m ν (New root h) (altering x) (model_altering q) → Outcome S m ν (New root h) (altering x') (model_altering q')
+      through {x} {x'} {q} {q'} e d o = subst (λ y. Outcome S m ν (New root h) (altering y) (model_altering q')) (sym e) (subst (λ z. Outcome S m ν (New root h) (altering x) (model_altering z)) (sym d) o)
 
-      at : root < 64 → S.legal h ≡ true → (x : Option ℕ × Regions) → new_object S s root h ≡ new_at s root h (S.size h) x → new S m root h ≡ (Granted, with_root (with_object S m h) root (suc n)) → Outcome S m ν (New root h) (altering (new_object S s root h)) (new S m root h)
+      at : root < 64 → S.legal h ≡ true → (x : Option ℕ × Regions) → new_object S s root h ≡ new_at s root h (S.size h) x → new S m root h ≡ (Ok tt, with_root (with_object S m h) root (suc n)) → Outcome S m ν (New root h) (altering (new_object S s root h)) (model_altering (new S m root h))
       at l f (None, r) E D =
           let x = subst (Keeps S s (λ t r. Makes S s t root h r)) E keep in
           through E D (lacked refl (subst (λ t. Agree S t m ν) (sym x.effect) a))

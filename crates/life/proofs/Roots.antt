@@ -1,5 +1,5 @@
 -- get, copy and clear make a root hold what a reference or a root of both holds, or nil: the two go on agreeing.
-use Rattle.std.proofs.Common.{◌≡◌, ℕ, zero, suc, ◌+◌, ◌-◌, ◌<◌, Bool, true, false, cond, ◌&&◌, eqb, ltb, length, get_or, Some, None, Ok, Err, Option, sym, refl, ap, ◌∙◌, subst, inl, inr, arith}
+use Rattle.std.proofs.Common.{◌≡◌, ℕ, zero, suc, ◌+◌, ◌-◌, ◌<◌, Bool, true, false, cond, ◌&&◌, eqb, ltb, length, get_or, Some, None, Ok, Err, Result, Option, sym, refl, ap, ◌∙◌, subst, inl, inr, arith}
 use Rattle.image.specs.Content.{Content}
 use Rattle.heap.specs.Effects.{graph_of as heap_graph, Held, Gets, Copies, Clears}
 use Rattle.heap.specs.Sound.{Sound}
@@ -8,9 +8,8 @@ use Rattle.layout.specs.Shape.{Shape, Lawful}
 use Rattle.memory.specs.State.{State, word_in, root_in, with_root as with_heap_root}
 use Rattle.memory.specs.Edits.{reference_to, named_by, get_reference, get_at, copy_root, clear_root}
 use Rattle.model.specs.Edits.{held, object_at, numbered, word_at, with_root, get_reference as model_get, copy, clear, graph_of as model_graph}
+use Rattle.model.specs.declared.edits.Refusal.{Refusal}
 use Rattle.model.specs.declared.edits.Refusal.TheVariants.{WrongPosition}
-use Rattle.model.specs.declared.edits.Reply.{Reply}
-use Rattle.model.specs.declared.edits.Reply.TheVariants.{Granted, Refused}
 use Rattle.model.proofs.Changes.{hold, Matched, nil}
 use Rattle.model.proofs.Contents.{root_equal, root-whole, set_tells}
 use Rattle.model.proofs.Holding.{root_matched, field_matched, tied_hold}
@@ -74,8 +73,8 @@ module _ {S : Shape} (law : Lawful S) {s : State} {m : Content} {ν : ℕ → �
     | inl e ↦ at e (at_root a i)
   ]
     where
-      done : Reply × Content
-      done = cond (S.reference (numbered m (held m i)).header position) (Granted, with_root m k (word_at (numbered m (held m i)) position)) (Refused WrongPosition, m)
+      done : Result (Unit {0}) Refusal × Content
+      done = cond (S.reference (numbered m (held m i)).header position) (Ok tt, with_root m k (word_at (numbered m (held m i)) position)) (Err WrongPosition, m)
 
       at : (ltb i 64 && ltb k 64) ≡ true → At s m ν i → Alike S ν (get_reference S s i position k) (model_get S m i position k)
       at e (none n z) = alike (cond-true _ _ _ e ∙ ap (λ o. get_at S s o position k) n) (cond-true _ _ _ e ∙ of_nil m i done z) (refl, a)

@@ -1,11 +1,12 @@
 -- A life: each call keeps the heap and the heap that never collects in agreement, and the facts of a marking true. So by
 -- induction over the calls the answers to the edits are those of the heap that heard the same edits.
-use Rattle.std.proofs.Common.{◌≡◌, ◌*◌, ◌≤◌, List, [], ◌∷◌, length, sym, refl, ap, ◌∙◌, subst}
+use Rattle.std.proofs.Common.{◌≡◌, ◌*◌, ◌≤◌, List, [], ◌∷◌, length, Result, sym, refl, ap, ◌∙◌, subst}
 use Rattle.heap.specs.Effects.{Outside}
 use Rattle.heap.proofs.Keeps.{same_outside}
 use Rattle.layout.specs.Shape.{Shape}
 use Rattle.memory.specs.State.{State}
 use Rattle.model.specs.declared.edits.Edit.{Edit}
+use Rattle.model.specs.declared.edits.Refusal.{Refusal}
 use Rattle.model.specs.declared.edits.Reply.{Reply}
 use Rattle.life.specs.declared.calls.Call.{Call}
 use Rattle.life.specs.declared.calls.Answer.{Answer}
@@ -29,11 +30,11 @@ outside_both {s} {t} {u} a b = record {
 }
 
 -- a call c from b, which is answered o and leads to the heap t, and to c in all
-pub record OneCall (S : Shape) (b : Both) (c : Call) (o : Answer) (t : State) (d : Both) : Type 0 where
+pub record OneCall (S : Shape) (b : Both) (c : Call) (o : Result Answer Refusal) (t : State) (d : Both) : Type 0 where
   pub sure : Sure S d
   pub heap : d.heap ≡ t
   pub outside : Outside b.heap t
-  pub replied : (rs : List Reply) (es : List Edit) → rs ≡ replies S d.model es → seen_of c o rs ≡ replies S b.model (heard_of c o es)
+  pub replied : (rs : List (Result Reply Refusal)) (es : List Edit) → rs ≡ replies S d.model es → seen_of c o rs ≡ replies S b.model (heard_of c o es)
   pub hears : (es : List Edit) → told S d.model es ≡ told S b.model (heard_of c o es)
   pub counts : length d.scans ≡ scan_count_of o (length b.scans)
 

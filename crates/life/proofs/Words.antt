@@ -11,8 +11,6 @@ use Rattle.memory.specs.Edits.{reference_to, set_reference, set_at, storing, put
 use Rattle.model.specs.Edits.{held, object_at, numbered, with_word, set_reference as model_set, put_word as model_put, graph_of as model_graph}
 use Rattle.model.specs.declared.edits.Refusal.{Refusal}
 use Rattle.model.specs.declared.edits.Refusal.TheVariants.{WrongPosition}
-use Rattle.model.specs.declared.edits.Reply.{Reply}
-use Rattle.model.specs.declared.edits.Reply.TheVariants.{Granted, Refused}
 use Rattle.model.specs.Tied.{Tied}
 use Rattle.model.proofs.Changes.{write, Matched}
 use Rattle.model.proofs.Contents.{word_equal, word-whole}
@@ -21,15 +19,14 @@ use Rattle.model.proofs.Views.{Looks, tied_looks, tied_equal, plain-inside}
 use Rattle.model.proofs.Writing.{tied_reference, tied_plain, not_both}
 use Rattle.std.proofs.lemmas.Bool.Decides.{nat_tests}
 use Rattle.std.proofs.lemmas.Bool.{cases_Bool, cases_eq, cond-true, cond-false, ltb-true}
-use Rattle.life.specs.Serving.{granted}
 use Rattle.life.proofs.Agree.{Agree, At, none, some, at_root, head_is, number_below}
 use Rattle.life.proofs.Answering.{of_object_lem, of_nil}
 
--- what is shown of an edit that alters: the replies are the same, and the two agree after it
-abbrev pub Alike : Shape → (ℕ → ℕ) → Result (Unit {0}) Refusal × State → Reply × Content → Type 0
-Alike S ν p q = (granted p.0 ≡ q.0) × Agree S p.1 q.1 ν
+-- what is shown of an edit that alters: the answers are the same, and the two agree after it
+abbrev pub Alike : Shape → (ℕ → ℕ) → Result (Unit {0}) Refusal × State → Result (Unit {0}) Refusal × Content → Type 0
+Alike S ν p q = (p.0 ≡ q.0) × Agree S p.1 q.1 ν
 
-pub alike : {S : Shape} {ν : ℕ → ℕ} {p p' : Result (Unit {0}) Refusal × State} {q q' : Reply × Content} → p' ≡ p → q' ≡ q → Alike S ν p q → Alike S ν p' q'
+pub alike : {S : Shape} {ν : ℕ → ℕ} {p p' : Result (Unit {0}) Refusal × State} {q q' : Result (Unit {0}) Refusal × Content} → p' ≡ p → q' ≡ q → Alike S ν p q → Alike S ν p' q'
 alike {S} {ν} {p} {p'} {q} {q'} e d x = subst (λ y. Alike S ν y q') (sym e) (subst (λ z. Alike S ν p z) (sym d) x)
 
 -- the object at p is the same in a new state, but for the word at position i
@@ -85,8 +82,8 @@ module _ {S : Shape} (law : Lawful S) {s : State} {m : Content} {ν : ℕ → �
     | inl e ↦ at e (at_root a i)
   ]
     where
-      done : Reply × Content
-      done = cond (S.reference (numbered m (held m i)).header position) (Granted, with_word m (held m i) position (held m k)) (Refused WrongPosition, m)
+      done : Result (Unit {0}) Refusal × Content
+      done = cond (S.reference (numbered m (held m i)).header position) (Ok tt, with_word m (held m i) position (held m k)) (Err WrongPosition, m)
 
       named : (q : ℕ) → held m k ≡ suc q → q < length m.objects
       named q z = ltb-true q _ (a.whole.closed.roots k q z)
@@ -124,8 +121,8 @@ module _ {S : Shape} (law : Lawful S) {s : State} {m : Content} {ν : ℕ → �
     | inl e ↦ at e (at_root a i)
   ]
     where
-      done : Reply × Content
-      done = cond (plain S (numbered m (held m i)).header position) (Granted, with_word m (held m i) position word) (Refused WrongPosition, m)
+      done : Result (Unit {0}) Refusal × Content
+      done = cond (plain S (numbered m (held m i)).header position) (Ok tt, with_word m (held m i) position word) (Err WrongPosition, m)
 
       at : ltb i 64 ≡ true → At s m ν i → Alike S ν (put_word S s i position word) (model_put S m i position word)
       at e (none n z) = alike (cond-true _ _ _ e ∙ ap (λ o. put_at S s o position word) n) (cond-true _ _ _ e ∙ of_nil m i done z) (refl, a)

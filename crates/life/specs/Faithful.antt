@@ -17,11 +17,11 @@ use Rattle.model.specs.declared.edits.Edit.TheVariants.{New, Set, Get, Put, Peek
 use Rattle.model.specs.declared.edits.Refusal.{Refusal}
 use Rattle.model.specs.declared.edits.Refusal.TheVariants.{RootAbove63, IllegalHeader, RootNil, WrongPosition, NoSpace, AlreadyMarking, NotMarking, NotMarked}
 use Rattle.model.specs.declared.edits.Reply.{Reply}
-use Rattle.model.specs.declared.edits.Reply.TheVariants.{Granted, Word, Same as IsSame, Refused}
+use Rattle.model.specs.declared.edits.Reply.TheVariants.{Granted, Word, Same as IsSame}
 use Rattle.life.specs.declared.calls.Call.{Call}
 use Rattle.life.specs.declared.calls.Call.TheVariants.{Edit as Asked, Begin, Mark, Refine}
 use Rattle.life.specs.declared.calls.Answer.{Answer}
-use Rattle.life.specs.declared.calls.Answer.TheVariants.{Edit as Replied, Begun, Scanned, Done, Refined, Clean, Refused as Denied}
+use Rattle.life.specs.declared.calls.Answer.TheVariants.{Edit as Replied, Begun, Mark as ByMark, Refine as ByRefine}
 use Rattle.life.specs.Serving.{edited}
 
 -- whether an edit was refused for want of space
@@ -35,50 +35,44 @@ is_no_space AlreadyMarking = false
 is_no_space NotMarking = false
 is_no_space NotMarked = false
 
-abbrev pub lacking : Reply → Bool
-lacking Granted = false
-lacking (Word w) = false
-lacking (IsSame b) = false
-lacking (Refused why) = is_no_space why
+abbrev pub lacking : Result Reply Refusal → Bool
+lacking (Ok reply) = false
+lacking (Err why) = is_no_space why
 
 -- the edit that the heap that never collects hears of a call: none of one that is no edit, or was refused for want of space
-abbrev pub heard_of : Call → Answer → List Edit → List Edit
-heard_of (Asked e) (Replied r) es = cond (lacking r) es (e ∷ es)
-heard_of (Asked e) Begun es = es
-heard_of (Asked e) Scanned es = es
-heard_of (Asked e) Done es = es
-heard_of (Asked e) Refined es = es
-heard_of (Asked e) Clean es = es
-heard_of (Asked e) (Denied why) es = es
+abbrev pub heard_of : Call → Result Answer Refusal → List Edit → List Edit
+heard_of (Asked e) (Ok (Replied r)) es = e ∷ es
+heard_of (Asked e) (Ok Begun) es = es
+heard_of (Asked e) (Ok (ByMark x)) es = es
+heard_of (Asked e) (Ok (ByRefine x)) es = es
+heard_of (Asked e) (Err why) es = cond (is_no_space why) es (e ∷ es)
 heard_of Begin o es = es
 heard_of Mark o es = es
 heard_of Refine o es = es
 
-abbrev pub heard : List Call → List Answer → List Edit
+abbrev pub heard : List Call → List (Result Answer Refusal) → List Edit
 heard [] os = []
 heard (c ∷ cs) [] = []
 heard (c ∷ cs) (o ∷ os) = heard_of c o (heard cs os)
 
 -- what the planner was answered to these
-abbrev pub seen_of : Call → Answer → List Reply → List Reply
-seen_of (Asked e) (Replied r) rs = cond (lacking r) rs (r ∷ rs)
-seen_of (Asked e) Begun rs = rs
-seen_of (Asked e) Scanned rs = rs
-seen_of (Asked e) Done rs = rs
-seen_of (Asked e) Refined rs = rs
-seen_of (Asked e) Clean rs = rs
-seen_of (Asked e) (Denied why) rs = rs
+abbrev pub seen_of : Call → Result Answer Refusal → List (Result Reply Refusal) → List (Result Reply Refusal)
+seen_of (Asked e) (Ok (Replied r)) rs = Ok r ∷ rs
+seen_of (Asked e) (Ok Begun) rs = rs
+seen_of (Asked e) (Ok (ByMark x)) rs = rs
+seen_of (Asked e) (Ok (ByRefine x)) rs = rs
+seen_of (Asked e) (Err why) rs = cond (is_no_space why) rs (Err why ∷ rs)
 seen_of Begin o rs = rs
 seen_of Mark o rs = rs
 seen_of Refine o rs = rs
 
-abbrev pub seen : List Call → List Answer → List Reply
+abbrev pub seen : List Call → List (Result Answer Refusal) → List (Result Reply Refusal)
 seen [] os = []
 seen (c ∷ cs) [] = []
 seen (c ∷ cs) (o ∷ os) = seen_of c o (seen cs os)
 
 -- what the heap that never collects answers to edits, and what it holds after them
-abbrev pub replies : Shape → Content → List Edit → List Reply
+abbrev pub replies : Shape → Content → List Edit → List (Result Reply Refusal)
 replies S m [] = []
 replies S m (e ∷ es) = (model_edited S m e).0 ∷ replies S (model_edited S m e).1 es
 
@@ -87,18 +81,18 @@ told S m [] = m
 told S m (e ∷ es) = told S (model_edited S m e).1 es
 
 -- the answers are those of the heap that never collects
-abbrev pub Faithful : Shape → List Call → List Answer → Type 0
+abbrev pub Faithful : Shape → List Call → List (Result Answer Refusal) → Type 0
 Faithful S cs os = seen cs os ≡ replies S start (heard cs os)
 
 -- the number, less 1, that the object at each place bears: where an edit was a new that was granted, the object that the root
 -- then holds bears the next
-abbrev pub number_new : (ℕ → ℕ) → ℕ → ℕ → State → Reply → ℕ → ℕ
-number_new ν n root t Granted p = cond (reference_to (root_in t root) == suc p) n (ν p)
-number_new ν n root t (Word w) p = ν p
-number_new ν n root t (IsSame b) p = ν p
-number_new ν n root t (Refused why) p = ν p
+abbrev pub number_new : (ℕ → ℕ) → ℕ → ℕ → State → Result Reply Refusal → ℕ → ℕ
+number_new ν n root t (Ok Granted) p = cond (reference_to (root_in t root) == suc p) n (ν p)
+number_new ν n root t (Ok (Word w)) p = ν p
+number_new ν n root t (Ok (IsSame b)) p = ν p
+number_new ν n root t (Err why) p = ν p
 
-abbrev pub number_on : (ℕ → ℕ) → ℕ → Edit → Reply × State → ℕ → ℕ
+abbrev pub number_on : (ℕ → ℕ) → ℕ → Edit → Result Reply Refusal × State → ℕ → ℕ
 number_on ν n (New root h) p = number_new ν n root p.1 p.0
 number_on ν n (Set i position k) p = ν
 number_on ν n (Get i position k) p = ν
@@ -119,7 +113,7 @@ pub record Both : Type 0 where
   pub scans : List ℕ
 
 -- an edit that the heap answered; the other hears it, unless it was refused for want of space
-abbrev pub hearing : Shape → Both → Edit → Reply × State → Both
+abbrev pub hearing : Shape → Both → Edit → Result Reply Refusal × State → Both
 hearing S b e p =
     cond (lacking p.0)
     (record { heap = p.1; model = b.model; number = b.number; snapshot = b.snapshot; scans = b.scans })
@@ -161,6 +155,6 @@ abbrev pub outset : State → Both
 outset s = record { heap = s; model = start; number = λ p. 0; snapshot = start; scans = [] }
 
 -- the heap after the calls is tied to the heap that heard the same edits, by the numbers that its objects bear
-abbrev pub TiedAfter : Shape → State → List Call → List Answer → State → Type 0
+abbrev pub TiedAfter : Shape → State → List Call → List (Result Answer Refusal) → State → Type 0
 TiedAfter S s cs os t =
     Tied S (heap_graph t) (model_graph (told S start (heard cs os))) (living S (outset s) cs).number

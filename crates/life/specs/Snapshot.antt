@@ -1,18 +1,19 @@
 -- What a marking finds: exactly what the roots reached when it began, and what was made since.
-use Rattle.std.specs.Prelude.{◌≡◌, ℕ, suc, ◌*◌, ◌/◌, ◌<◌, ◌≤◌, Bool, true, false, cond, ◌⊎◌, List, [], ◌∷◌, length, Ok, ◌==◌}
+use Rattle.std.specs.Prelude.{◌≡◌, ℕ, suc, ◌*◌, ◌/◌, ◌<◌, ◌≤◌, Bool, true, false, cond, ◌⊎◌, List, [], ◌∷◌, length, Ok, Err, Result, ◌==◌}
 use Rattle.heap.specs.Sound.{region, size_at}
 use Rattle.heap.specs.Tiles.{total, held_by}
 use Rattle.image.specs.Content.{Content}
 use Rattle.layout.specs.Shape.{Shape}
 use Rattle.marking.specs.Scanning.{mark_step}
-use Rattle.marking.specs.declared.scanning.Marked.TheVariants.{Done as AllDone}
+use Rattle.marking.specs.declared.scanning.Marked.TheVariants.{Scanned as OneScanned, Done as AllDone}
 use Rattle.memory.specs.State.{State}
 use Rattle.memory.specs.declared.phase.Phase.TheVariants.{Marking, Marked}
 use Rattle.model.specs.Edits.{graph_of}
 use Rattle.model.specs.Graph.{Reach}
+use Rattle.model.specs.declared.edits.Refusal.{Refusal}
 use Rattle.life.specs.declared.calls.Call.{Call}
 use Rattle.life.specs.declared.calls.Answer.{Answer}
-use Rattle.life.specs.declared.calls.Answer.TheVariants.{Edit as Replied, Begun, Scanned, Done, Refined, Clean, Refused as Denied}
+use Rattle.life.specs.declared.calls.Answer.TheVariants.{Edit as Replied, Begun, Mark as ByMark, Refine as ByRefine}
 
 -- the object of number n + 1 was reached by the roots at the last granted begin
 abbrev pub Reached : Shape → Content → ℕ → Type 0
@@ -27,16 +28,15 @@ abbrev pub Stale : Shape → Content → ℕ → Type 0
 Stale S m n = (n < length m.objects) × (Reached S m n → ⊥)
 
 -- how many objects were scanned since the last granted begin, as the answers tell, after n before
-abbrev pub scan_count_of : Answer → ℕ → ℕ
-scan_count_of (Replied r) n = n
-scan_count_of Begun n = 0
-scan_count_of Scanned n = suc n
-scan_count_of Done n = n
-scan_count_of Refined n = n
-scan_count_of Clean n = n
-scan_count_of (Denied why) n = n
+abbrev pub scan_count_of : Result Answer Refusal → ℕ → ℕ
+scan_count_of (Ok (Replied r)) n = n
+scan_count_of (Ok Begun) n = 0
+scan_count_of (Ok (ByMark OneScanned)) n = suc n
+scan_count_of (Ok (ByMark AllDone)) n = n
+scan_count_of (Ok (ByRefine x)) n = n
+scan_count_of (Err why) n = n
 
-abbrev pub scan_count : List Call → List Answer → ℕ → ℕ
+abbrev pub scan_count : List Call → List (Result Answer Refusal) → ℕ → ℕ
 scan_count [] os n = n
 scan_count (c ∷ cs) [] n = n
 scan_count (c ∷ cs) (o ∷ os) n = scan_count cs os (scan_count_of o n)

@@ -1,5 +1,6 @@
 //! What can be asked of a heap, and what it answers.
-use model::{Edit, Refusal, Reply};
+use marking::{Marked, Refined};
+use model::{Edit, Reply};
 
 /// A call.
 #[derive(Clone, Copy)]
@@ -14,21 +15,15 @@ pub enum Call {
     Refine,
 }
 
-/// The answer to a call.
+/// The answer to a call that is not refused.
 #[derive(Clone, Copy)]
 pub enum Answer {
-    /// The answer to an edit.
+    /// The reply to an edit.
     Edit(Reply),
     /// A marking has begun.
     Begun,
-    /// An object was scanned.
-    Scanned,
-    /// The marking is done.
-    Done,
-    /// A card was refined.
-    Refined,
-    /// All cards are clean.
-    Clean,
-    /// A step of a marking is refused, and altered nothing.
-    Refused(Refusal),
+    /// What a step of a marking did.
+    Mark(Marked),
+    /// What a refine did.
+    Refine(Refined),
 }
