@@ -1,14 +1,17 @@
 -- The texts of calls, of answers, and of the lines that have both.
-use Rattle.std.specs.Prelude.{ℕ, cond, List, ◌++◌, codes, decimal}
+use Rattle.std.specs.Prelude.{ℕ, cond, List, ◌++◌, Ok, Err, Result, codes, decimal}
+use Rattle.marking.specs.declared.refining.Refined.TheVariants.{Refined as OneRefined, Clean as AllClean}
+use Rattle.marking.specs.declared.scanning.Marked.TheVariants.{Scanned as OneScanned, Done as AllDone}
 use Rattle.model.specs.Refusals.{number_of}
 use Rattle.model.specs.declared.edits.Edit.{Edit}
 use Rattle.model.specs.declared.edits.Edit.TheVariants.{New, Set, Get, Put, Peek, Copy, Clear, Same, Head}
+use Rattle.model.specs.declared.edits.Refusal.{Refusal}
 use Rattle.model.specs.declared.edits.Reply.{Reply}
-use Rattle.model.specs.declared.edits.Reply.TheVariants.{Granted, Word, Same as IsSame, Refused}
+use Rattle.model.specs.declared.edits.Reply.TheVariants.{Granted, Word, Same as IsSame}
 use Rattle.life.specs.declared.calls.Call.{Call}
 use Rattle.life.specs.declared.calls.Call.TheVariants.{Edit as Asked, Begin, Mark, Refine}
 use Rattle.life.specs.declared.calls.Answer.{Answer}
-use Rattle.life.specs.declared.calls.Answer.TheVariants.{Edit as Replied, Begun, Scanned, Done, Refined, Clean, Refused as Denied}
+use Rattle.life.specs.declared.calls.Answer.TheVariants.{Edit as Replied, Begun, Mark as ByMark, Refine as ByRefine}
 
 -- a name and numbers, with a space before each number
 abbrev pub with_one : List ℕ → ℕ → List ℕ
@@ -35,7 +38,6 @@ abbrev pub reply_text : Reply → List ℕ
 reply_text Granted = codes "granted"
 reply_text (Word w) = decimal w
 reply_text (IsSame b) = cond b (codes "yes") (codes "no")
-reply_text (Refused why) = codes "refused " ++ decimal (number_of why)
 
 abbrev pub call_text : Call → List ℕ
 call_text (Asked e) = edit_text e
@@ -43,15 +45,15 @@ call_text Begin = codes "begin"
 call_text Mark = codes "mark"
 call_text Refine = codes "refine"
 
-abbrev pub answer_text : Answer → List ℕ
-answer_text (Replied r) = reply_text r
-answer_text Begun = codes "begun"
-answer_text Scanned = codes "scanned"
-answer_text Done = codes "done"
-answer_text Refined = codes "refined"
-answer_text Clean = codes "clean"
-answer_text (Denied why) = codes "refused " ++ decimal (number_of why)
+abbrev pub answer_text : Result Answer Refusal → List ℕ
+answer_text (Ok (Replied r)) = reply_text r
+answer_text (Ok Begun) = codes "begun"
+answer_text (Ok (ByMark OneScanned)) = codes "scanned"
+answer_text (Ok (ByMark AllDone)) = codes "done"
+answer_text (Ok (ByRefine OneRefined)) = codes "refined"
+answer_text (Ok (ByRefine AllClean)) = codes "clean"
+answer_text (Err why) = codes "refused " ++ decimal (number_of why)
 
 -- what was asked, a colon, and what was answered
-abbrev pub line_of : Call → Answer → List ℕ
+abbrev pub line_of : Call → Result Answer Refusal → List ℕ
 line_of c a = call_text c ++ (codes ": " ++ answer_text a)

@@ -5,6 +5,7 @@ ghost use Rattle.std.specs.Prelude.{Some};
 use crate::answered::Answered;
 use crate::asked::Asked;
 use life::{Answer, Call};
+use model::Refusal;
 use std::fmt;
 
 /// A call and what it was answered, shown as `peek 3 3: 500`.
@@ -13,7 +14,7 @@ pub struct Line {
     /// What was asked.
     pub call: Call,
     /// What was answered.
-    pub answer: Answer,
+    pub answer: Result<Answer, Refusal>,
 }
 
 impl fmt::Display for Line {

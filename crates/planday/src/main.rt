@@ -4,11 +4,9 @@
 mod asks;
 mod day;
 
-use day::COUNT;
 use daybook::Line;
 use layout::Cabling;
 use life::{Answer, live};
-use model::Reply;
 use std::io;
 use store::ByteStore;
 
@@ -17,14 +15,11 @@ const BYTES: usize = 4 * 1024 * 4 + 2;
 
 fn main(rt: HostRuntime) -> Result<(), io::Error> {
     let store = ByteStore::new(vec![in rt.alloc(); 0u8; BYTES]?);
-    let calls = day::calls();
-    let mut answers = [Answer::Edit(Reply::Granted); COUNT];
+    let calls = day::calls(rt.alloc())?;
+    let mut answers = vec![in rt.alloc(); Ok(Answer::Begun); calls.len()]?;
     let _heap = live::<ByteStore, Cabling>(store, &calls, &mut answers);
-    for k in 0..COUNT {
-        let line = Line {
-            call: calls[k],
-            answer: answers[k],
-        };
+    for (call, answer) in calls.into_iter().zip(answers) {
+        let line = Line { call, answer };
         println!(rt; "{line}")?;
     }
     Ok(())

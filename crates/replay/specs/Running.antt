@@ -1,5 +1,5 @@
 -- What is run of calls that are given as words, and what is left of it in the caller's lists.
-use Rattle.std.specs.Prelude.{ℕ, zero, suc, ◌+◌, ◌*◌, ◌/◌, Bool, true, false, cond, ◌||◌, List, [], ◌∷◌, ◌++◌, length, take, drop, Some, None, Option, ◌==◌, nat_lt, slice_index, slice_set}
+use Rattle.std.specs.Prelude.{ℕ, zero, suc, ◌+◌, ◌*◌, ◌/◌, Bool, true, false, cond, ◌||◌, List, [], ◌∷◌, ◌++◌, length, take, drop, Some, None, Option, Result, ◌==◌, nat_lt, slice_index, slice_set}
 use Rattle.layout.specs.Cabling.{cabling}
 use Rattle.layout.specs.Counted.{counted}
 use Rattle.layout.specs.Shape.{Shape}
@@ -8,6 +8,7 @@ use Rattle.life.specs.declared.calls.Answer.{Answer}
 use Rattle.life.specs.declared.calls.Call.{Call}
 use Rattle.memory.specs.Objects.{making}
 use Rattle.memory.specs.State.{State}
+use Rattle.model.specs.declared.edits.Refusal.{Refusal}
 use Rattle.tables.specs.Regions.{region_at}
 use Rattle.tables.specs.declared.region.Region.{Region}
 use Rattle.replay.specs.Codes.{decoded, kind_of, value_of}
@@ -31,12 +32,12 @@ call_at ws k =
     cond (nat_lt k (length ws / 4)) (decoded (slice_index ws (4 * k)) (slice_index ws (4 * k + 1)) (slice_index ws (4 * k + 2)) (slice_index ws (4 * k + 3))) None
 
 -- the words of answers, two each
-abbrev pub words_of : List Answer → List ℕ
+abbrev pub words_of : List (Result Answer Refusal) → List ℕ
 words_of [] = []
 words_of (a ∷ more) = kind_of a ∷ value_of a ∷ words_of more
 
 -- the words of an answer, put in the places of answer k
-abbrev pub answered : List ℕ → ℕ → Answer → List ℕ
+abbrev pub answered : List ℕ → ℕ → Result Answer Refusal → List ℕ
 answered os k a = slice_set (slice_set os (2 * k) (kind_of a)) (2 * k + 1) (value_of a)
 
 -- call k, if there is one: whether it was run, the answers then, and the heap then

@@ -1,9 +1,10 @@
-//! Calls and answers as words.
+//! Calls and answers as words: the C interface has numbers for their kinds.
 ghost use Rattle.replay.specs.Codes.{decoded, kind_of, value_of};
 ghost use Rattle.std.specs.Prelude.{◌≡◌};
 
 use life::{Answer, Call};
-use model::{Edit, Reply};
+use marking::{Marked, Refined};
+use model::{Edit, Refusal, Reply};
 
 /// The call that a code and three words stand for, if the code is known. Words that the call does not take are not looked at.
 pub fn decode(code: u32, a: u32, b: u32, c: u32) -> Option<Call>
@@ -40,33 +41,29 @@ pub fn decode(code: u32, a: u32, b: u32, c: u32) -> Option<Call>
 }
 
 /// The kind of an answer: 0 granted or begun, 1 a word, 2 yes or no, 3 refused, 4 scanned, 5 done, 6 refined, 7 clean.
-pub fn kind(answer: Answer) -> u32
+pub fn kind(answer: Result<Answer, Refusal>) -> u32
     ensures { result ≡ kind_of answer }
 {
     match answer {
-        Answer::Edit(Reply::Granted) => 0,
-        Answer::Edit(Reply::Word(_)) => 1,
-        Answer::Edit(Reply::Same(_)) => 2,
-        Answer::Edit(Reply::Refused(_)) => 3,
-        Answer::Begun => 0,
-        Answer::Scanned => 4,
-        Answer::Done => 5,
-        Answer::Refined => 6,
-        Answer::Clean => 7,
-        Answer::Refused(_) => 3,
+        Ok(Answer::Edit(Reply::Granted) | Answer::Begun) => 0,
+        Ok(Answer::Edit(Reply::Word(_))) => 1,
+        Ok(Answer::Edit(Reply::Same(_))) => 2,
+        Err(_) => 3,
+        Ok(Answer::Mark(Marked::Scanned)) => 4,
+        Ok(Answer::Mark(Marked::Done)) => 5,
+        Ok(Answer::Refine(Refined::Refined)) => 6,
+        Ok(Answer::Refine(Refined::Clean)) => 7,
     }
 }
 
 /// The value of an answer: the word, 1 for yes and 0 for no, the number of the refusal, and 0 for all others.
-pub fn value(answer: Answer) -> u32
+pub fn value(answer: Result<Answer, Refusal>) -> u32
     ensures { result ≡ value_of answer }
 {
     match answer {
-        Answer::Edit(Reply::Granted) => 0,
-        Answer::Edit(Reply::Word(word)) => word,
-        Answer::Edit(Reply::Same(same)) => u32::from(same),
-        Answer::Edit(Reply::Refused(refusal)) => refusal.number(),
-        Answer::Begun | Answer::Scanned | Answer::Done | Answer::Refined | Answer::Clean => 0,
-        Answer::Refused(refusal) => refusal.number(),
+        Ok(Answer::Edit(Reply::Word(word))) => word,
+        Ok(Answer::Edit(Reply::Same(same))) => u32::from(same),
+        Ok(_) => 0,
+        Err(refusal) => refusal.number(),
     }
 }

@@ -8,6 +8,7 @@ use crate::lent::Lent;
 use heap::Heap;
 use layout::Layout;
 use life::{Answer, Call, serve};
+use model::Refusal;
 use store::Store;
 
 /// The call with a number, if there is a whole one and its code is known.
@@ -22,7 +23,7 @@ pub fn call_at(calls: &[u32], k: usize) -> Option<Call>
 }
 
 /// Stores an answer in the places of answer `k`.
-fn store_answer(answers: &mut [u32], k: usize, answer: Answer)
+fn store_answer(answers: &mut [u32], k: usize, answer: Result<Answer, Refusal>)
     requires { k < length answers.old / 2 }
     ensures { answers.new ≡ answered answers.old k answer }
 {
