@@ -9,8 +9,7 @@ use Rattle.heap.specs.Sound.{Sound}
 use Rattle.heap.specs.Steps.{SameObjects, Begins, Marks, Refining}
 use Rattle.heap.proofs.BeginKeeps.{begin_keeps}
 use Rattle.heap.proofs.Geometry.{place_below}
-use Rattle.heap.proofs.Holds.{Holds}
-use Rattle.heap.proofs.Keeps.{same_outside}
+use Rattle.heap.proofs.Keeps.{Keeps, same_outside}
 use Rattle.heap.proofs.MarkKeeps.{mark_keeps}
 use Rattle.heap.proofs.NewKeeps.{new_keeps}
 use Rattle.heap.proofs.PutKeeps.{put_keeps}
@@ -194,7 +193,7 @@ module _ {S : Shape} (law : Lawful S) where
   begin_call : (b : Both) → Sure S b → OneCall S b Begin (begun_answer (begin_step b.heap).0) (begin_step b.heap).1 (beginning b (begin_step b.heap))
   begin_call b a = go (begin_step b.heap) (begin_keeps S b.heap a.agree.sound)
     where
-      go : (x : Result (Unit {0}) Refusal × State) → Holds S b.heap (λ t r. Begins b.heap t r) x → OneCall S b Begin (begun_answer x.0) x.1 (beginning b x)
+      go : (x : Result (Unit {0}) Refusal × State) → Keeps S b.heap (λ t r. Begins b.heap t r) x → OneCall S b Begin (begun_answer x.0) x.1 (beginning b x)
       go (Ok done, t) h =
           let agree = same_agree a.agree h.effect.same h.sound in
           record {
@@ -232,7 +231,7 @@ module _ {S : Shape} (law : Lawful S) where
   mark_call : (b : Both) → Sure S b → OneCall S b Mark (mark_answer (mark_step S b.heap).0) (mark_step S b.heap).1 (marking b (mark_step S b.heap))
   mark_call b a = go (mark_step S b.heap) refl (mark_keeps S law b.heap a.agree.sound)
     where
-      go : (x : Result Progress Refusal × State) → mark_step S b.heap ≡ x → Holds S b.heap (λ t r. Marks S b.heap t r) x → OneCall S b Mark (mark_answer x.0) x.1 (marking b x)
+      go : (x : Result Progress Refusal × State) → mark_step S b.heap ≡ x → Keeps S b.heap (λ t r. Marks S b.heap t r) x → OneCall S b Mark (mark_answer x.0) x.1 (marking b x)
       go (Ok OneScanned, t) e h =
           let p = h.effect.0 in
           let x = h.effect.1 in
@@ -283,7 +282,7 @@ module _ {S : Shape} (law : Lawful S) where
       one : (x : Refinement × State) → Outside b.heap x.1 → Sure S (after_it x.1) → OneCall S b Refine (refine_answer x.0) x.1 (after_it x.1)
       one x o z = record { sure = z; heap = refl; outside = o; replied = λ rs es r. r; hears = λ es. refl; counts = refl }
 
-      go : (x : Refinement × State) → Holds S b.heap (λ t r. Refining S b.heap t r) x → OneCall S b Refine (refine_answer x.0) x.1 (after_it x.1)
+      go : (x : Refinement × State) → Keeps S b.heap (λ t r. Refining S b.heap t r) x → OneCall S b Refine (refine_answer x.0) x.1 (after_it x.1)
       go (OneRefined, t) h =
           let x = h.effect.1 in
           one (OneRefined, t) h.outside (record { agree = same_agree a.agree x.same h.sound; facts = facts_refine x.same x.marks S b.model b.number b.snapshot b.scans a.facts })

@@ -8,7 +8,7 @@ use Rattle.life.proofs.living.live.Goals as goal
 pub loop-k-preserved : goal.loop-k-preserved
 loop-k-preserved g c =
     let S = g.L.Layout.shape in
-    let see = state_of g.S.Store.words g.S.Store.spare in
+    let see = state_of {store = g.S.Store} {layout = g.L.Layout} g.S.Store.words g.S.Store.spare in
     let before = c.args.answers.now in
     let cs = take (length before) c.args.calls.now in
     let it = c.loop-k.k-iterator in
@@ -24,7 +24,7 @@ loop-k-preserved g c =
 pub returns : goal.returns
 returns g c =
     let S = g.L.Layout.shape in
-    let see = state_of g.S.Store.words g.S.Store.spare in
+    let see = state_of {store = g.S.Store} {layout = g.L.Layout} g.S.Store.words g.S.Store.spare in
     let before = c.args.answers.now in
     let cs = take (length before) c.args.calls.now in
     let it = c.loop-k.k-iterator in
