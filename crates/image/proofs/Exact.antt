@@ -128,7 +128,7 @@ module _ (S : Shape) (lawful : Lawful S) (bs : List ℕ) (c : Content) (w : Well
       let x = objects-written bs n w.few_objects S 1 s c.objects [] (subst (λ m. Ordered S n 1 m c.objects) (sym g) w.objects) (f ∙ sym (append-nil (objects_bytes c.objects))) in
       (x.0, runs_collect (object_step bs n S) 1 s c.objects x.0 x.1, x.2)
 
-  written_read : read S bs ≡ Ok c
+  pub written_read : read S bs ≡ Ok c
   written_read =
       let start : start_of bs ≡ Ok 2 = ap start_of e in
       let s0 : drop 2 bs ≡ encode S.sign ++ (encode n ++ (encode r ++ (numbers c.roots ++ objects_bytes c.objects))) = ap (drop 2) e in

@@ -4,6 +4,6 @@ mod Runs
 mod Stages
 mod Said
 mod Written
-mod Exact
+pub mod Exact
 mod Places
 pub mod Sizes

@@ -28,7 +28,10 @@ impl<'a> Reader<'a> {
         ensures { Follows result (start_of bytes.now) (λ reader at. (reader.bytes.now ≡ bytes.now) × (reader.position ≡ at)) }
     {
         match bytes {
-            [0x43, 0x4D, ..] => Ok(Reader { bytes, position: 2 }),
+            [0x43, 0x4D, rest @ ..] => Ok(Reader {
+                bytes,
+                position: bytes.len() - rest.len(),
+            }),
             [_, _, ..] => Err(Fault::Start.at(0, 0)),
             _ => Err(Fault::Number(leb128::Fault::EndsEarly).at(bytes.len(), 0)),
         }
