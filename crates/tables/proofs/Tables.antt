@@ -36,10 +36,10 @@ slice_get-set_other (y ∷ xs) (suc i) zero x n = refl
 slice_get-set_other (y ∷ xs) (suc i) (suc j) x n = slice_get-set_other xs i j x (λ e. n (ap suc e))
 
 -- a card that is put into a region's table is entered there, and in no other
-pub table-joined : (ts : List (BitSet 8)) (g d : ℕ) (t x : BitSet 8) → length ts ≡ 32 → g < 32
+pub table_joined : (ts : List (BitSet 8)) (g d : ℕ) (t x : BitSet 8) → length ts ≡ 32 → g < 32
     → members t ≡ joined 512 (members (get_or ts g x)) d → (512 ≤ d → members t ≡ members (get_or ts g x)) → table_in (set ts g t) ≡ entered (table_in ts) g d
 unfolding joined entered
-table-joined ts g d t x len l j p = fun_ext (λ h. fun_ext (λ k. elim (cases_eq h g) [ inl u ↦ here h k u | inr u ↦ other h k u ]))
+table_joined ts g d t x len l j p = fun_ext (λ h. fun_ext (λ k. elim (cases_eq h g) [ inl u ↦ here h k u | inr u ↦ other h k u ]))
   where
     here : (h k : ℕ) → h ≡ g → table_in (set ts g t) h k ≡ entered (table_in ts) g d h k
     here h k u =

@@ -49,6 +49,7 @@ impl Cards {
     }
 
     /// Enters a card in the table of a region.
+    #[tactic(auto, using(crate::proofs::Tables::table_joined, crate::proofs::Tables::not_entered))]
     pub fn remember(&mut self, region: u32, card: u32)
         ensures { cards_of self.new ≡ remembering (cards_of self.old) region card }
     {
