@@ -13,6 +13,7 @@ use store::Store;
 use tables::{Cards, Marks, Regions};
 
 /// Writes `count` zeros after the word at a place.
+#[tactic(auto, unfolding(crate::specs::Objects::zeroed))]
 fn write_zeros<S: Store>(store: &mut S, place: u32, count: u32)
     ensures words { S.words store.new ≡ zeroed (S.words store.old) (place + 1) count }
     ensures spare { S.spare store.new ≡ S.spare store.old }
