@@ -19,6 +19,7 @@ pub enum Refined {
 
 /// Enters a card in the table of each region that the object at a place refers to, but for the card's own, if an object starts
 /// there.
+#[tactic(auto, unfolding(crate::specs::Refining::enter_fields))]
 fn enter_object<S: Store, L: Layout>(memory: &mut Memory<S, L>, card: u32, place: u32)
     ensures { view S.words S.spare memory.new ≡ enter_object L.shape (view S.words S.spare memory.old) card place }
 {
@@ -37,6 +38,7 @@ fn enter_object<S: Store, L: Layout>(memory: &mut Memory<S, L>, card: u32, place
 }
 
 /// Does so for the objects whose headers lie in the card.
+#[tactic(auto, using(crate::proofs::Walks::objects_none, crate::proofs::Walks::objects_more))]
 fn enter_objects<S: Store, L: Layout>(memory: &mut Memory<S, L>, card: u32)
     requires { card < 512 }
     ensures { view S.words S.spare memory.new ≡ enter_objects L.shape (view S.words S.spare memory.old) card 64 }

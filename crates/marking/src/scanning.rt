@@ -20,6 +20,7 @@ pub enum Marked {
 }
 
 /// The objects of all roots are marked and made pending.
+#[tactic(auto, using(crate::proofs::Walks::roots_kept), unfolding(crate::specs::Scanning::shaded_roots))]
 fn shade_roots<S: Store, L: Layout>(memory: &mut Memory<S, L>)
     ensures { view S.words S.spare memory.new ≡ shaded_roots (view S.words S.spare memory.old) 64 }
 {
@@ -43,6 +44,7 @@ pub fn begin<S: Store, L: Layout>(memory: &mut Memory<S, L>) -> Result<(), Refus
 
 /// Scans the object at a place: it is pending no more, and what it refers to is marked and made pending, unless it is marked
 /// already.
+#[tactic(auto, unfolding(crate::specs::Scanning::scan_fields))]
 fn scan<S: Store, L: Layout>(memory: &mut Memory<S, L>, place: u32)
     ensures { view S.words S.spare memory.new ≡ scanned L.shape (view S.words S.spare memory.old) place }
 {
@@ -57,6 +59,7 @@ fn scan<S: Store, L: Layout>(memory: &mut Memory<S, L>, place: u32)
 }
 
 /// The live count of each region becomes what the marking has counted there.
+#[tactic(auto, unfolding(crate::specs::Scanning::lives_from))]
 fn count_lives<S: Store, L: Layout>(memory: &mut Memory<S, L>)
     ensures { view S.words S.spare memory.new ≡ lives_from (view S.words S.spare memory.old) 32 }
 {
