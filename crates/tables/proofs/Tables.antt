@@ -57,7 +57,7 @@ table_joined ts g d t x len l j p = fun_ext (λ h. fun_ext (λ k. elim (cases_eq
         let e : in_table (slice_get (set ts g t) h) k ≡ in_table (slice_get ts h) k = ap (λ o. in_table o k) (slice_get-set_other ts g h t u) in
         grind (arith, nat_tests)
 
--- a region or a card that there is none of is entered nowhere
+-- a region that there is none of has no table, and entering a card there alters nothing
 pub not_entered : (t : ℕ → ℕ → Bool) (g d : ℕ) → 32 ≤ g → t ≡ entered t g d
 unfolding entered
 not_entered t g d l = fun_ext (λ h. fun_ext (λ k. grind (arith, nat_tests)))
