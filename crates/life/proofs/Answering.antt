@@ -1,33 +1,19 @@
 -- The edits that alter nothing are answered alike: each asks for a root, a header or a plain word of an object that a root
 -- holds, and there the two agree. The heap that never collects never lacks space.
-use Rattle.std.proofs.Common.{◌≡◌, ℕ, suc, Bool, true, false, cond, eqb, Err, Result, refl, ap, inl, inr, arith}
+use Rattle.std.proofs.Common.{◌≡◌, ℕ, false, ap, inl, inr, arith}
 use Rattle.image.specs.Content.{Content}
 use Rattle.layout.specs.Shape.{Shape}
 use Rattle.memory.specs.State.{State}
 use Rattle.memory.specs.Edits.{peek_word, same_roots, head_of}
-use Rattle.model.specs.Edits.{held, of_object, edited, peek, same, head}
+use Rattle.model.specs.Edits.{held, edited, peek, same, head}
 use Rattle.model.specs.declared.edits.Edit.{Edit}
 use Rattle.model.specs.declared.edits.Edit.TheVariants.{New, Set, Get, Put, Peek, Copy, Clear, Same, Head}
-use Rattle.model.specs.declared.edits.Refusal.{Refusal}
-use Rattle.model.specs.declared.edits.Refusal.TheVariants.{RootNil}
 use Rattle.std.proofs.lemmas.Bool.Decides.{nat_tests}
-use Rattle.std.proofs.lemmas.Bool.{cases_eq, cond-true, cond-false, eq-eqb, ne_eqb}
+use Rattle.std.proofs.lemmas.Bool.{cases_eq}
 use Rattle.life.specs.Faithful.{lacking}
 use Rattle.life.proofs.Agree.{Agree, At, none, some, at_root, head_is, object_is, reference_is}
 
--- a test that chooses for both
-pub both_cond : {A B : Type 0} (P : A → B → Type 0) (b : Bool) {x y : A} {u v : B} → (b ≡ true → P x u) → (b ≡ false → P y v) → P (cond b x y) (cond b u v)
-both_cond P true f g = f refl
-both_cond P false f g = g refl
-
--- where a root is not nil, an edit of its object is done
-pub of_object_lem : {A : Type 0} (m : Content) (i n : ℕ) (done : Result A Refusal × Content) → held m i ≡ suc n → of_object m i done ≡ done
-of_object_lem m i n done e = cond-false (eqb (held m i) 0) _ _ (ne_eqb (held m i) 0 (λ z. omega arith))
-
--- where it is nil, it is refused
-pub of_nil : {A : Type 0} (m : Content) (i : ℕ) (done : Result A Refusal × Content) → held m i ≡ 0 → of_object m i done ≡ (Err RootNil, m)
-of_nil m i done e = cond-true (eqb (held m i) 0) _ _ (eq-eqb (held m i) 0 e)
-
+-- the heap that never collects lacks no space
 pub never_lacks : (S : Shape) (m : Content) (e : Edit) → lacking (edited S m e).0 ≡ false
 never_lacks S m (New root h) = grind arith
 never_lacks S m (Set i position k) = grind arith

@@ -1,20 +1,19 @@
 -- get, copy and clear change a root and nothing else: no mark and no word of an object changes, and the root then holds nil, what
 -- a root held, or what a reference of an object held by a root named.
-use Rattle.std.proofs.Common.{◌≡◌, ℕ, suc, ◌+◌, ◌<◌, ◌≤◌, Bool, true, cond, ◌&&◌, eqb, ltb, ◌⊎◌, length, get_or, Some, None, Ok, Err, Result, Option, sym, refl, ap, ◌∙◌, subst, inl, inr, arith}
+use Rattle.std.proofs.Common.{◌≡◌, ℕ, suc, ◌+◌, ◌<◌, ◌≤◌, true, cond, ◌&&◌, eqb, ltb, ◌⊎◌, length, get_or, Some, None, Ok, Result, Option, sym, refl, ap, ◌∙◌, subst, inl, inr, arith}
 use Rattle.image.specs.Content.{Content}
 use Rattle.heap.specs.Effects.{Held, SameMarks, Gets, Copies, Clears}
 use Rattle.heap.proofs.Keeps.{Keeps}
 use Rattle.layout.specs.Shape.{Shape}
 use Rattle.memory.specs.State.{State, word_in, root_in, with_root as with_heap_root}
-use Rattle.memory.specs.Edits.{named_by, get_reference, get_at, copy_root, clear_root}
+use Rattle.memory.specs.Edits.{named_by, get_reference, copy_root, clear_root}
 use Rattle.model.specs.Edits.{held, numbered, word_at, with_root, get_reference as model_get, copy, clear}
 use Rattle.model.specs.declared.edits.Refusal.{Refusal}
-use Rattle.model.specs.declared.edits.Refusal.TheVariants.{WrongPosition}
 use Rattle.model.proofs.Contents.{set_tells}
 use Rattle.std.proofs.lemmas.Bool.Decides.{nat_tests}
 use Rattle.std.proofs.lemmas.Bool.{cases_Bool, cases_eq, cond-true, cond-false, ltb-true, and_parts, both_ways}
-use Rattle.life.proofs.Agree.{Agree, At, none, some, at_root, head_is, object_is}
-use Rattle.life.proofs.Answering.{of_object_lem, of_nil}
+use Rattle.life.proofs.Agree.{Agree, object_is}
+use Rattle.life.proofs.Ends.{GetEnds, no, yes, get_ends}
 use Rattle.life.proofs.EditedSame.{same_edits, edits_as}
 use Rattle.life.proofs.Facts.{Named, Edits}
 
@@ -64,43 +63,22 @@ module _ {S : Shape} {s : State} {m : Content} {ν : ℕ → ℕ} (a : Agree S s
       go e x = hold_edits (with_heap_root s i None) i 0 None (ltb-true i 64 e) x.effect.0 x.effect.1 (λ n z. absurd (omega arith))
 
   pub get_edits : (i position k : ℕ) → Keeps S s (λ t r. Gets S s t i position k r) (get_reference S s i position k) → Edits S s (get_reference S s i position k).1 m (model_get S m i position k).1 ν ν
-  get_edits i position k keep = elim (cases_Bool (ltb i 64 && ltb k 64)) [
-    | inr e ↦ edits_as (cond-false _ _ _ e) (cond-false _ _ _ e) (same_edits S s m ν)
-    | inl e ↦ at e (at_root a i)
-  ]
+  get_edits i position k keep = go (get_ends a i position k) keep
     where
-      done : Result (Unit {0}) Refusal × Content
-      done = cond (S.reference (numbered m (held m i)).header position) (Ok tt, with_root m k (word_at (numbered m (held m i)) position)) (Err WrongPosition, m)
-
-      at : (ltb i 64 && ltb k 64) ≡ true → At s m ν i → Edits S s (get_reference S s i position k).1 m (model_get S m i position k).1 ν ν
-      at e (none n z) = edits_as (cond-true _ _ _ e ∙ ap (λ o. get_at S s o position k) n) (cond-true _ _ _ e ∙ of_nil m i done z) (same_edits S s m ν)
-      at e (some p n st z) = elim (cases_Bool (S.reference (word_in s p) position)) [
-        | inr f ↦ edits_as (heap ∙ cond-false _ _ _ f) (model ∙ cond-false _ _ _ (same f)) (same_edits S s m ν)
-        | inl f ↦ (let E = heap ∙ cond-true _ _ _ f in edits_as E (model ∙ cond-true _ _ _ (same f)) (go f (subst (Keeps S s (λ t r. Gets S s t i position k r)) E keep)))
-      ]
-        where
-          heap : get_reference S s i position k ≡ cond (S.reference (word_in s p) position) (Ok tt, with_heap_root s k (named_by (word_in s (p + position)))) (Err WrongPosition, s)
-          heap = cond-true _ _ _ e ∙ ap (λ o. get_at S s o position k) n
-
-          model : model_get S m i position k ≡ done
-          model = cond-true _ _ _ e ∙ of_object_lem m i (ν p) done z
-
-          same : {b : Bool} → S.reference (word_in s p) position ≡ b → S.reference (numbered m (held m i)).header position ≡ b
-          same f = ap (λ h. S.reference h position) (sym (head_is a i p st z)) ∙ f
-
-          go : S.reference (word_in s p) position ≡ true → Keeps S s (λ t r. Gets S s t i position k r) (Ok tt, with_heap_root s k (named_by (word_in s (p + position)))) → Edits S s (with_heap_root s k (named_by (word_in s (p + position)))) m (with_root m k (word_at (numbered m (held m i)) position)) ν ν
-          go f x =
-              let t = with_heap_root s k (named_by (word_in s (p + position))) in
-              let o : Some x.effect.0 ≡ Some p = sym x.effect.1 ∙ n in
-              let c : x.effect.0 ≡ p = cc in
-              let y : Held s t k (named_by (word_in s (p + position))) = subst (λ q. Held s t k (named_by (word_in s (q + position)))) c x.effect.3 in
-              let d = object_is m (held m i) (ν p) z in
-              hold_edits t k (word_at (numbered m (held m i)) position) (named_by (word_in s (p + position))) (ltb-true k 64 (and_parts (ltb i 64) (ltb k 64) e).1) y x.effect.4
-              (λ q w. inr (record {
-                root = i;
-                object = ν p;
-                position = position;
-                held-there = z;
-                reference = ap (λ h. S.reference h position) (sym (a.tied.heads p st)) ∙ f;
-                word = ap (λ b. word_at b position) (sym d) ∙ w;
-              }))
+      go : {x : Result (Unit {0}) Refusal × State} {y : Result (Unit {0}) Refusal × Content} → GetEnds S s m ν i position k x y → Keeps S s (λ t r. Gets S s t i position k r) x → Edits S s x.1 m y.1 ν ν
+      go (no why) x = same_edits S s m ν
+      go (yes p e n st z f) x =
+          let t = with_heap_root s k (named_by (word_in s (p + position))) in
+          let o : Some x.effect.0 ≡ Some p = sym x.effect.1 ∙ n in
+          let c : x.effect.0 ≡ p = cc in
+          let y : Held s t k (named_by (word_in s (p + position))) = subst (λ q. Held s t k (named_by (word_in s (q + position)))) c x.effect.3 in
+          let d = object_is m (held m i) (ν p) z in
+          hold_edits t k (word_at (numbered m (held m i)) position) (named_by (word_in s (p + position))) (ltb-true k 64 (and_parts (ltb i 64) (ltb k 64) e).1) y x.effect.4
+          (λ q w. inr (record {
+            root = i;
+            object = ν p;
+            position = position;
+            held-there = z;
+            reference = ap (λ h. S.reference h position) (sym (a.tied.heads p st)) ∙ f;
+            word = ap (λ b. word_at b position) (sym d) ∙ w;
+          }))

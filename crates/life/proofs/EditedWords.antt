@@ -1,27 +1,26 @@
 -- set and put write one word of an object that a root holds. While marking, set marks what the old reference named, and the new
 -- reference is one that a root holds; put writes no reference.
-use Rattle.std.proofs.Common.{◌≡◌, ℕ, suc, ◌+◌, ◌-◌, ◌<◌, ◌≤◌, Bool, true, cond, ◌&&◌, eqb, ltb, ◌⊎◌, set, Some, Ok, Err, Result, sym, refl, ap, ◌∙◌, subst, inl, inr, arith}
+use Rattle.std.proofs.Common.{◌≡◌, ℕ, suc, ◌+◌, ◌-◌, ◌<◌, ◌≤◌, true, cond, ◌&&◌, eqb, ◌⊎◌, set, Some, Result, sym, refl, ap, ◌∙◌, subst, inl, inr, arith}
 use Rattle.image.specs.Content.{Content}
 use Rattle.heap.specs.Effects.{Wrote, Guards, SameMarks, Sets, Puts}
 use Rattle.heap.specs.Sound.{Sound}
 use Rattle.heap.proofs.Keeps.{Keeps}
-use Rattle.layout.specs.Shape.{Shape, Lawful, plain}
+use Rattle.layout.specs.Shape.{Shape, Lawful}
 use Rattle.memory.specs.State.{State, word_in, root_in, with_word as with_heap_word}
-use Rattle.memory.specs.Edits.{reference_to, set_reference, set_at, storing, put_word, put_at}
+use Rattle.memory.specs.Edits.{reference_to, set_reference, storing, put_word}
 use Rattle.memory.specs.declared.phase.Phase.TheVariants.{Marking}
 use Rattle.model.specs.Edits.{held, object_at, numbered, word_at, with_word, set_reference as model_set, put_word as model_put, graph_of as model_graph}
 use Rattle.model.specs.declared.edits.Refusal.{Refusal}
-use Rattle.model.specs.declared.edits.Refusal.TheVariants.{WrongPosition}
 use Rattle.model.proofs.Changes.{write}
 use Rattle.model.proofs.Contents.{word_equal}
 use Rattle.model.proofs.Views.{Equal, plain-inside}
 use Rattle.model.proofs.Writing.{not_both}
 use Rattle.std.proofs.lemmas.List.{length-set}
 use Rattle.std.proofs.lemmas.Bool.Decides.{nat_tests}
-use Rattle.std.proofs.lemmas.Bool.{cases_Bool, cases_eq, cond-true, cond-false, both_ways}
-use Rattle.life.proofs.Agree.{Agree, At, none, some, at_root, head_is, number_below}
-use Rattle.life.proofs.Answering.{of_object_lem, of_nil}
-use Rattle.life.proofs.EditedSame.{same_edits, edits_as}
+use Rattle.std.proofs.lemmas.Bool.{cases_eq, both_ways}
+use Rattle.life.proofs.Agree.{Agree, number_below}
+use Rattle.life.proofs.Ends.{SetEnds, PutEnds, no, yes, set_ends, put_ends}
+use Rattle.life.proofs.EditedSame.{same_edits}
 use Rattle.life.proofs.Facts.{Named, Edits}
 use Rattle.life.proofs.Words.{wrote_looks}
 
@@ -96,85 +95,43 @@ module _ {S : Shape} (law : Lawful S) {s : State} {m : Content} {ν : ℕ → �
             off d = grind (arith, nat_tests)
 
   pub set_edits : (i position k : ℕ) → Keeps S s (λ t r. Sets S s t i position k r) (set_reference S s i position k) → Edits S s (set_reference S s i position k).1 m (model_set S m i position k).1 ν ν
-  set_edits i position k keep = elim (cases_Bool (ltb i 64 && ltb k 64)) [
-    | inr e ↦ edits_as (cond-false _ _ _ e) (cond-false _ _ _ e) (same_edits S s m ν)
-    | inl e ↦ at e (at_root a i)
-  ]
+  set_edits i position k keep = go (set_ends a i position k) keep
     where
-      done : Result (Unit {0}) Refusal × Content
-      done = cond (S.reference (numbered m (held m i)).header position) (Ok tt, with_word m (held m i) position (held m k)) (Err WrongPosition, m)
-
-      at : (ltb i 64 && ltb k 64) ≡ true → At s m ν i → Edits S s (set_reference S s i position k).1 m (model_set S m i position k).1 ν ν
-      at e (none n z) = edits_as (cond-true _ _ _ e ∙ ap (λ o. set_at S s o position (reference_to (root_in s k))) n) (cond-true _ _ _ e ∙ of_nil m i done z) (same_edits S s m ν)
-      at e (some p n st z) = elim (cases_Bool (S.reference (word_in s p) position)) [
-        | inr f ↦ edits_as (heap ∙ cond-false _ _ _ f) (model ∙ cond-false _ _ _ (same f)) (same_edits S s m ν)
-        | inl f ↦ (let E = heap ∙ cond-true _ _ _ f in edits_as E (model ∙ cond-true _ _ _ (same f)) (go f (subst (Keeps S s (λ t r. Sets S s t i position k r)) E keep)))
-      ]
-        where
-          heap : set_reference S s i position k ≡ cond (S.reference (word_in s p) position) (Ok tt, storing s p position (reference_to (root_in s k))) (Err WrongPosition, s)
-          heap = cond-true _ _ _ e ∙ ap (λ o. set_at S s o position (reference_to (root_in s k))) n
-
-          model : model_set S m i position k ≡ done
-          model = cond-true _ _ _ e ∙ of_object_lem m i (ν p) done z
-
-          same : {b : Bool} → S.reference (word_in s p) position ≡ b → S.reference (numbered m (held m i)).header position ≡ b
-          same f = ap (λ h. S.reference h position) (sym (head_is a i p st z)) ∙ f
-
-          go : S.reference (word_in s p) position ≡ true → Keeps S s (λ t r. Sets S s t i position k r) (Ok tt, storing s p position (reference_to (root_in s k))) → Edits S s (storing s p position (reference_to (root_in s k))) m (with_word m (held m i) position (held m k)) ν ν
-          go f x =
-              let t = storing s p position (reference_to (root_in s k)) in
-              let w = reference_to (root_in s k) in
-              let o : Some x.effect.0 ≡ Some p = sym x.effect.1 ∙ n in
-              let c : x.effect.0 ≡ p = cc in
-              let b = law.inside (word_in s p) position f in
-              let y : Wrote S s t p position w = subst (λ q. Wrote S s t q position w) c x.effect.3 in
-              let g : Guards s t (word_in s (p + position)) = subst (λ q. Guards s t (word_in s (q + position))) c x.effect.4 in
-              subst (λ v. Edits S s t m (with_word m v position (held m k)) ν ν) (sym z)
-              (written_edits t p position w (held m k) (word_in s (p + position)) st b.0 b.1 x.sound y g
-              (λ q sq d. record {
-                root = i;
-                object = ν p;
-                position = position;
-                held-there = z;
-                reference = ap (λ h. S.reference h position) (sym (a.tied.heads p st)) ∙ f;
-                word = a.tied.same p position q st f d;
-              })
-              (λ d. refl) (λ d q v. (k, v)))
+      go : {x : Result (Unit {0}) Refusal × State} {y : Result (Unit {0}) Refusal × Content} → SetEnds S s m ν i position k x y → Keeps S s (λ t r. Sets S s t i position k r) x → Edits S s x.1 m y.1 ν ν
+      go (no why) x = same_edits S s m ν
+      go (yes p e n st z f) x =
+          let t = storing s p position (reference_to (root_in s k)) in
+          let w = reference_to (root_in s k) in
+          let o : Some x.effect.0 ≡ Some p = sym x.effect.1 ∙ n in
+          let c : x.effect.0 ≡ p = cc in
+          let b = law.inside (word_in s p) position f in
+          let y : Wrote S s t p position w = subst (λ q. Wrote S s t q position w) c x.effect.3 in
+          let g : Guards s t (word_in s (p + position)) = subst (λ q. Guards s t (word_in s (q + position))) c x.effect.4 in
+          subst (λ v. Edits S s t m (with_word m v position (held m k)) ν ν) (sym z)
+          (written_edits t p position w (held m k) (word_in s (p + position)) st b.0 b.1 x.sound y g
+          (λ q sq d. record {
+            root = i;
+            object = ν p;
+            position = position;
+            held-there = z;
+            reference = ap (λ h. S.reference h position) (sym (a.tied.heads p st)) ∙ f;
+            word = a.tied.same p position q st f d;
+          })
+          (λ d. refl) (λ d q v. (k, v)))
 
   pub put_edits : (i position word : ℕ) → Keeps S s (λ t r. Puts S s t i position word r) (put_word S s i position word) → Edits S s (put_word S s i position word).1 m (model_put S m i position word).1 ν ν
-  put_edits i position word keep = elim (cases_Bool (ltb i 64)) [
-    | inr e ↦ edits_as (cond-false _ _ _ e) (cond-false _ _ _ e) (same_edits S s m ν)
-    | inl e ↦ at e (at_root a i)
-  ]
+  put_edits i position word keep = go (put_ends a i position word) keep
     where
-      done : Result (Unit {0}) Refusal × Content
-      done = cond (plain S (numbered m (held m i)).header position) (Ok tt, with_word m (held m i) position word) (Err WrongPosition, m)
-
-      at : ltb i 64 ≡ true → At s m ν i → Edits S s (put_word S s i position word).1 m (model_put S m i position word).1 ν ν
-      at e (none n z) = edits_as (cond-true _ _ _ e ∙ ap (λ o. put_at S s o position word) n) (cond-true _ _ _ e ∙ of_nil m i done z) (same_edits S s m ν)
-      at e (some p n st z) = elim (cases_Bool (plain S (word_in s p) position)) [
-        | inr f ↦ edits_as (heap ∙ cond-false _ _ _ f) (model ∙ cond-false _ _ _ (same f)) (same_edits S s m ν)
-        | inl f ↦ (let E = heap ∙ cond-true _ _ _ f in edits_as E (model ∙ cond-true _ _ _ (same f)) (go f (subst (Keeps S s (λ t r. Puts S s t i position word r)) E keep)))
-      ]
-        where
-          heap : put_word S s i position word ≡ cond (plain S (word_in s p) position) (Ok tt, with_heap_word s (p + position) word) (Err WrongPosition, s)
-          heap = cond-true _ _ _ e ∙ ap (λ o. put_at S s o position word) n
-
-          model : model_put S m i position word ≡ done
-          model = cond-true _ _ _ e ∙ of_object_lem m i (ν p) done z
-
-          same : {b : Bool} → plain S (word_in s p) position ≡ b → plain S (numbered m (held m i)).header position ≡ b
-          same f = ap (λ h. plain S h position) (sym (head_is a i p st z)) ∙ f
-
-          go : plain S (word_in s p) position ≡ true → Keeps S s (λ t r. Puts S s t i position word r) (Ok tt, with_heap_word s (p + position) word) → Edits S s (with_heap_word s (p + position) word) m (with_word m (held m i) position word) ν ν
-          go f x =
-              let t = with_heap_word s (p + position) word in
-              let o : Some x.effect.0 ≡ Some p = sym x.effect.1 ∙ n in
-              let c : x.effect.0 ≡ p = cc in
-              let b = plain-inside S (word_in s p) position f in
-              let y : Wrote S s t p position word = subst (λ q. Wrote S s t q position word) c x.effect.3 in
-              subst (λ v. Edits S s t m (with_word m v position word) ν ν) (sym z)
-              (written_edits t p position word word 0 st b.0 b.1 x.sound y (same_guards x.effect.4)
-              (λ q sq d. absurd (omega arith))
-              (λ d. absurd (not_both S (word_in s p) position f d))
-              (λ d. absurd (not_both S (word_in s p) position f d)))
+      go : {x : Result (Unit {0}) Refusal × State} {y : Result (Unit {0}) Refusal × Content} → PutEnds S s m ν i position word x y → Keeps S s (λ t r. Puts S s t i position word r) x → Edits S s x.1 m y.1 ν ν
+      go (no why) x = same_edits S s m ν
+      go (yes p e n st z f) x =
+          let t = with_heap_word s (p + position) word in
+          let o : Some x.effect.0 ≡ Some p = sym x.effect.1 ∙ n in
+          let c : x.effect.0 ≡ p = cc in
+          let b = plain-inside S (word_in s p) position f in
+          let y : Wrote S s t p position word = subst (λ q. Wrote S s t q position word) c x.effect.3 in
+          subst (λ v. Edits S s t m (with_word m v position word) ν ν) (sym z)
+          (written_edits t p position word word 0 st b.0 b.1 x.sound y (same_guards x.effect.4)
+          (λ q sq d. absurd (omega arith))
+          (λ d. absurd (not_both S (word_in s p) position f d))
+          (λ d. absurd (not_both S (word_in s p) position f d)))

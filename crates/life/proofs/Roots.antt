@@ -1,22 +1,21 @@
 -- get, copy and clear make a root hold what a reference or a root of both holds, or nil: the two go on agreeing.
-use Rattle.std.proofs.Common.{◌≡◌, ℕ, zero, suc, ◌+◌, ◌-◌, ◌<◌, Bool, true, false, cond, ◌&&◌, eqb, ltb, length, get_or, Some, None, Ok, Err, Result, Option, sym, refl, ap, ◌∙◌, subst, inl, inr, arith}
+use Rattle.std.proofs.Common.{◌≡◌, ℕ, zero, suc, ◌+◌, ◌-◌, ◌<◌, Bool, true, false, cond, ◌&&◌, eqb, ltb, length, get_or, Some, None, Ok, Result, Option, sym, refl, ap, ◌∙◌, subst, inl, inr, arith}
 use Rattle.image.specs.Content.{Content}
 use Rattle.heap.specs.Effects.{graph_of as heap_graph, Held, Gets, Copies, Clears}
 use Rattle.heap.specs.Sound.{Sound}
 use Rattle.heap.proofs.Keeps.{Keeps}
 use Rattle.layout.specs.Shape.{Shape, Lawful}
 use Rattle.memory.specs.State.{State, word_in, root_in, with_root as with_heap_root}
-use Rattle.memory.specs.Edits.{reference_to, named_by, get_reference, get_at, copy_root, clear_root}
+use Rattle.memory.specs.Edits.{reference_to, named_by, get_reference, copy_root, clear_root}
 use Rattle.model.specs.Edits.{held, object_at, numbered, word_at, with_root, get_reference as model_get, copy, clear, graph_of as model_graph}
 use Rattle.model.specs.declared.edits.Refusal.{Refusal}
-use Rattle.model.specs.declared.edits.Refusal.TheVariants.{WrongPosition}
 use Rattle.model.proofs.Changes.{hold, Matched, nil}
 use Rattle.model.proofs.Contents.{root_equal, root-whole, set_tells}
 use Rattle.model.proofs.Holding.{root_matched, field_matched, tied_hold}
 use Rattle.model.proofs.Views.{Looks, tied_looks, tied_equal}
 use Rattle.std.proofs.lemmas.Bool.{cases_Bool, cond-true, cond-false, eq-eqb, ne_eqb, ltb-true, and_parts}
-use Rattle.life.proofs.Agree.{Agree, At, none, some, at_root, head_is, object_is, reached, reference_is}
-use Rattle.life.proofs.Answering.{of_object_lem, of_nil}
+use Rattle.life.proofs.Agree.{Agree, object_is, reached, reference_is}
+use Rattle.life.proofs.Ends.{GetEnds, no, yes, get_ends}
 use Rattle.life.proofs.Words.{Alike, alike}
 
 -- a reference that is nil or names an object is that of what it names
@@ -68,35 +67,14 @@ module _ {S : Shape} (law : Lawful S) {s : State} {m : Content} {ν : ℕ → �
       go e x = hold_agree (with_heap_root s i None) i 0 None (ltb-true i 64 e) x.sound x.effect.0 nil (λ o z. absurd (omega arith))
 
   pub get_alike : (i position k : ℕ) → Keeps S s (λ t r. Gets S s t i position k r) (get_reference S s i position k) → Alike S ν (get_reference S s i position k) (model_get S m i position k)
-  get_alike i position k keep = elim (cases_Bool (ltb i 64 && ltb k 64)) [
-    | inr e ↦ alike (cond-false _ _ _ e) (cond-false _ _ _ e) (refl, a)
-    | inl e ↦ at e (at_root a i)
-  ]
+  get_alike i position k keep = go (get_ends a i position k) keep
     where
-      done : Result (Unit {0}) Refusal × Content
-      done = cond (S.reference (numbered m (held m i)).header position) (Ok tt, with_root m k (word_at (numbered m (held m i)) position)) (Err WrongPosition, m)
-
-      at : (ltb i 64 && ltb k 64) ≡ true → At s m ν i → Alike S ν (get_reference S s i position k) (model_get S m i position k)
-      at e (none n z) = alike (cond-true _ _ _ e ∙ ap (λ o. get_at S s o position k) n) (cond-true _ _ _ e ∙ of_nil m i done z) (refl, a)
-      at e (some p n st z) = elim (cases_Bool (S.reference (word_in s p) position)) [
-        | inr f ↦ alike (heap ∙ cond-false _ _ _ f) (model ∙ cond-false _ _ _ (same f)) (refl, a)
-        | inl f ↦ (let E = heap ∙ cond-true _ _ _ f in alike E (model ∙ cond-true _ _ _ (same f)) (refl, go f (subst (Keeps S s (λ t r. Gets S s t i position k r)) E keep)))
-      ]
+      go : {x : Result (Unit {0}) Refusal × State} {y : Result (Unit {0}) Refusal × Content} → GetEnds S s m ν i position k x y → Keeps S s (λ t r. Gets S s t i position k r) x → Alike S ν x y
+      go (no why) x = (refl, a)
+      go (yes p e n st z f) x = (refl, agree)
         where
-          v : Option ℕ
-          v = named_by (word_in s (p + position))
-
-          heap : get_reference S s i position k ≡ cond (S.reference (word_in s p) position) (Ok tt, with_heap_root s k (named_by (word_in s (p + position)))) (Err WrongPosition, s)
-          heap = cond-true _ _ _ e ∙ ap (λ o. get_at S s o position k) n
-
-          model : model_get S m i position k ≡ done
-          model = cond-true _ _ _ e ∙ of_object_lem m i (ν p) done z
-
-          same : {b : Bool} → S.reference (word_in s p) position ≡ b → S.reference (numbered m (held m i)).header position ≡ b
-          same f = ap (λ h. S.reference h position) (sym (head_is a i p st z)) ∙ f
-
-          go : S.reference (word_in s p) position ≡ true → Keeps S s (λ t r. Gets S s t i position k r) (Ok tt, with_heap_root s k (named_by (word_in s (p + position)))) → Agree S (with_heap_root s k (named_by (word_in s (p + position)))) (with_root m k (word_at (numbered m (held m i)) position)) ν
-          go f x =
+          agree : Agree S (with_heap_root s k (named_by (word_in s (p + position)))) (with_root m k (word_at (numbered m (held m i)) position)) ν
+          agree =
               let t = with_heap_root s k (named_by (word_in s (p + position))) in
               let u = word_at (object_at m.objects (ν p)) position in
               let o : Some x.effect.0 ≡ Some p = sym x.effect.1 ∙ n in

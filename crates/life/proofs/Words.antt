@@ -1,5 +1,5 @@
 -- set and put write a word into the object that a root holds, and into the object of its number: the two go on agreeing.
-use Rattle.std.proofs.Common.{◌≡◌, ℕ, suc, ◌+◌, ◌<◌, ◌≤◌, Bool, true, cond, ◌&&◌, eqb, ltb, ◌⊎◌, length, get_or, Some, None, Ok, Err, Result, sym, refl, ap, ◌∙◌, subst, inl, inr, arith}
+use Rattle.std.proofs.Common.{◌≡◌, ℕ, suc, ◌+◌, ◌<◌, ◌≤◌, true, cond, ◌&&◌, eqb, ◌⊎◌, length, get_or, Some, None, Result, sym, refl, ap, ◌∙◌, subst, inl, inr, arith}
 use Rattle.image.specs.Content.{Content}
 use Rattle.heap.specs.Effects.{graph_of as heap_graph, Wrote, Sets, Puts}
 use Rattle.heap.specs.Sound.{Sound}
@@ -7,10 +7,9 @@ use Rattle.heap.proofs.Geometry.{some_word}
 use Rattle.heap.proofs.Keeps.{Keeps}
 use Rattle.layout.specs.Shape.{Shape, Lawful, plain}
 use Rattle.memory.specs.State.{State, word_in, root_in, with_word as with_heap_word}
-use Rattle.memory.specs.Edits.{reference_to, set_reference, set_at, storing, put_word, put_at}
-use Rattle.model.specs.Edits.{held, object_at, numbered, with_word, set_reference as model_set, put_word as model_put, graph_of as model_graph}
+use Rattle.memory.specs.Edits.{reference_to, set_reference, storing, put_word}
+use Rattle.model.specs.Edits.{held, object_at, with_word, set_reference as model_set, put_word as model_put, graph_of as model_graph}
 use Rattle.model.specs.declared.edits.Refusal.{Refusal}
-use Rattle.model.specs.declared.edits.Refusal.TheVariants.{WrongPosition}
 use Rattle.model.specs.Tied.{Tied}
 use Rattle.model.proofs.Changes.{write, Matched}
 use Rattle.model.proofs.Contents.{word_equal, word-whole}
@@ -18,9 +17,9 @@ use Rattle.model.proofs.Holding.{root_matched}
 use Rattle.model.proofs.Views.{Looks, tied_looks, tied_equal, plain-inside}
 use Rattle.model.proofs.Writing.{tied_reference, tied_plain, not_both}
 use Rattle.std.proofs.lemmas.Bool.Decides.{nat_tests}
-use Rattle.std.proofs.lemmas.Bool.{cases_Bool, cases_eq, cond-true, cond-false, ltb-true}
-use Rattle.life.proofs.Agree.{Agree, At, none, some, at_root, head_is, number_below}
-use Rattle.life.proofs.Answering.{of_object_lem, of_nil}
+use Rattle.std.proofs.lemmas.Bool.{cases_eq, ltb-true}
+use Rattle.life.proofs.Agree.{Agree, number_below}
+use Rattle.life.proofs.Ends.{SetEnds, PutEnds, no, yes, set_ends, put_ends}
 
 -- what is shown of an edit that alters: the answers are the same, and the two agree after it
 abbrev pub Alike : Shape → (ℕ → ℕ) → Result (Unit {0}) Refusal × State → Result (Unit {0}) Refusal × Content → Type 0
@@ -77,35 +76,17 @@ module _ {S : Shape} (law : Lawful S) {s : State} {m : Content} {ν : ℕ → �
     }
 
   pub set_alike : (i position k : ℕ) → Keeps S s (λ t r. Sets S s t i position k r) (set_reference S s i position k) → Alike S ν (set_reference S s i position k) (model_set S m i position k)
-  set_alike i position k keep = elim (cases_Bool (ltb i 64 && ltb k 64)) [
-    | inr e ↦ alike (cond-false _ _ _ e) (cond-false _ _ _ e) (refl, a)
-    | inl e ↦ at e (at_root a i)
-  ]
+  set_alike i position k keep = go (set_ends a i position k) keep
     where
-      done : Result (Unit {0}) Refusal × Content
-      done = cond (S.reference (numbered m (held m i)).header position) (Ok tt, with_word m (held m i) position (held m k)) (Err WrongPosition, m)
-
       named : (q : ℕ) → held m k ≡ suc q → q < length m.objects
       named q z = ltb-true q _ (a.whole.closed.roots k q z)
 
-      at : (ltb i 64 && ltb k 64) ≡ true → At s m ν i → Alike S ν (set_reference S s i position k) (model_set S m i position k)
-      at e (none n z) = alike (cond-true _ _ _ e ∙ ap (λ o. set_at S s o position (reference_to (root_in s k))) n) (cond-true _ _ _ e ∙ of_nil m i done z) (refl, a)
-      at e (some p n st z) = elim (cases_Bool (S.reference (word_in s p) position)) [
-        | inr f ↦ alike (heap ∙ cond-false _ _ _ f) (model ∙ cond-false _ _ _ (same f)) (refl, a)
-        | inl f ↦ (let E = heap ∙ cond-true _ _ _ f in alike E (model ∙ cond-true _ _ _ (same f)) (refl, go f (subst (Keeps S s (λ t r. Sets S s t i position k r)) E keep)))
-      ]
+      go : {x : Result (Unit {0}) Refusal × State} {y : Result (Unit {0}) Refusal × Content} → SetEnds S s m ν i position k x y → Keeps S s (λ t r. Sets S s t i position k r) x → Alike S ν x y
+      go (no why) x = (refl, a)
+      go (yes p e n st z f) x = (refl, agree)
         where
-          heap : set_reference S s i position k ≡ cond (S.reference (word_in s p) position) (Ok tt, storing s p position (reference_to (root_in s k))) (Err WrongPosition, s)
-          heap = cond-true _ _ _ e ∙ ap (λ o. set_at S s o position (reference_to (root_in s k))) n
-
-          model : model_set S m i position k ≡ done
-          model = cond-true _ _ _ e ∙ of_object_lem m i (ν p) done z
-
-          same : {b : Bool} → S.reference (word_in s p) position ≡ b → S.reference (numbered m (held m i)).header position ≡ b
-          same f = ap (λ h. S.reference h position) (sym (head_is a i p st z)) ∙ f
-
-          go : S.reference (word_in s p) position ≡ true → Keeps S s (λ t r. Sets S s t i position k r) (Ok tt, storing s p position (reference_to (root_in s k))) → Agree S (storing s p position (reference_to (root_in s k))) (with_word m (held m i) position (held m k)) ν
-          go f x =
+          agree : Agree S (storing s p position (reference_to (root_in s k))) (with_word m (held m i) position (held m k)) ν
+          agree =
               let t = storing s p position (reference_to (root_in s k)) in
               let w = reference_to (root_in s k) in
               let o : Some x.effect.0 ≡ Some p = sym x.effect.1 ∙ n in
@@ -116,32 +97,14 @@ module _ {S : Shape} (law : Lawful S) {s : State} {m : Content} {ν : ℕ → �
               (set_agree t p position w (held m k) st b.0 b.1 x.sound y f (root_matched a.tied k) named)
 
   pub put_alike : (i position word : ℕ) → Keeps S s (λ t r. Puts S s t i position word r) (put_word S s i position word) → Alike S ν (put_word S s i position word) (model_put S m i position word)
-  put_alike i position word keep = elim (cases_Bool (ltb i 64)) [
-    | inr e ↦ alike (cond-false _ _ _ e) (cond-false _ _ _ e) (refl, a)
-    | inl e ↦ at e (at_root a i)
-  ]
+  put_alike i position word keep = go (put_ends a i position word) keep
     where
-      done : Result (Unit {0}) Refusal × Content
-      done = cond (plain S (numbered m (held m i)).header position) (Ok tt, with_word m (held m i) position word) (Err WrongPosition, m)
-
-      at : ltb i 64 ≡ true → At s m ν i → Alike S ν (put_word S s i position word) (model_put S m i position word)
-      at e (none n z) = alike (cond-true _ _ _ e ∙ ap (λ o. put_at S s o position word) n) (cond-true _ _ _ e ∙ of_nil m i done z) (refl, a)
-      at e (some p n st z) = elim (cases_Bool (plain S (word_in s p) position)) [
-        | inr f ↦ alike (heap ∙ cond-false _ _ _ f) (model ∙ cond-false _ _ _ (same f)) (refl, a)
-        | inl f ↦ (let E = heap ∙ cond-true _ _ _ f in alike E (model ∙ cond-true _ _ _ (same f)) (refl, go f (subst (Keeps S s (λ t r. Puts S s t i position word r)) E keep)))
-      ]
+      go : {x : Result (Unit {0}) Refusal × State} {y : Result (Unit {0}) Refusal × Content} → PutEnds S s m ν i position word x y → Keeps S s (λ t r. Puts S s t i position word r) x → Alike S ν x y
+      go (no why) x = (refl, a)
+      go (yes p e n st z f) x = (refl, agree)
         where
-          heap : put_word S s i position word ≡ cond (plain S (word_in s p) position) (Ok tt, with_heap_word s (p + position) word) (Err WrongPosition, s)
-          heap = cond-true _ _ _ e ∙ ap (λ o. put_at S s o position word) n
-
-          model : model_put S m i position word ≡ done
-          model = cond-true _ _ _ e ∙ of_object_lem m i (ν p) done z
-
-          same : {b : Bool} → plain S (word_in s p) position ≡ b → plain S (numbered m (held m i)).header position ≡ b
-          same f = ap (λ h. plain S h position) (sym (head_is a i p st z)) ∙ f
-
-          go : plain S (word_in s p) position ≡ true → Keeps S s (λ t r. Puts S s t i position word r) (Ok tt, with_heap_word s (p + position) word) → Agree S (with_heap_word s (p + position) word) (with_word m (held m i) position word) ν
-          go f x =
+          agree : Agree S (with_heap_word s (p + position) word) (with_word m (held m i) position word) ν
+          agree =
               let t = with_heap_word s (p + position) word in
               let o : Some x.effect.0 ≡ Some p = sym x.effect.1 ∙ n in
               let c : x.effect.0 ≡ p = cc in
