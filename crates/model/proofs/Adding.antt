@@ -36,19 +36,6 @@ module _ {S : Shape} {h m : Graph} {ν : ℕ → ℕ} (t : Tied S h m ν) (c : C
   ν-old : (q : ℕ) → h.node q ≡ true → renumbered ν p n q ≡ ν q
   ν-old q e = let a = apart q e in grind (arith, nat_tests)
 
-  -- what the changed functions give at the new object and at the others, in the heap and under its number
-  at_new : (q w x : ℕ) → q ≡ p → cond (eqb q p) w x ≡ w
-  at_new q w x e = grind (arith, nat_tests)
-
-  at_old : (q w x : ℕ) → h.node q ≡ true → cond (eqb q p) w x ≡ x
-  at_old q w x e = let a = apart q e in grind (arith, nat_tests)
-
-  model-new : (q : ℕ) (w : ℕ) (f : ℕ → ℕ) → q ≡ p → cond (eqb (renumbered ν p n q) n) w (f (renumbered ν p n q)) ≡ w
-  model-new q w f e = rw (ν-new q e) (grind (arith, nat_tests))
-
-  model_old : (q : ℕ) (w : ℕ) (f : ℕ → ℕ) → h.node q ≡ true → cond (eqb (renumbered ν p n q) n) w (f (renumbered ν p n q)) ≡ f (ν q)
-  model_old q w f e = rw (ν-old q e) (let a = num q e in grind (arith, nat_tests))
-
   less : (o : ℕ) → Reach S (hold (add m n hd) k (suc n)) o → (o ≡ n) ⊎ Reach S m o
   less o (by_root j e) = elim (cases_eq j k) [ inl a ↦ inl (grind (arith, nat_tests)) | inr a ↦ inr (by_root j (grind (arith, nat_tests))) ]
   less o (by_field {o = x} i r g e) = elim (cases_eq x n) [
@@ -76,34 +63,33 @@ module _ {S : Shape} {h m : Graph} {ν : ℕ → ℕ} (t : Tied S h m ν) (c : C
       | inr a ↦ (let b : h.root j ≡ suc q = grind (arith, nat_tests) in let d = ν-old q (t.root_there j q b) in let f = t.root_same j q b in grind (arith, nat_tests))
     ];
     heads = λ q nq. elim (is q nq) [
-      | inl a ↦ at_new q hd _ a ∙ sym (model-new q hd (λ x. m.head x) a)
-      | inr a ↦ at_old q hd _ a ∙ t.heads q a ∙ sym (model_old q hd (λ x. m.head x) a)
+      | inl a ↦ grind (arith, nat_tests, ν-new q a)
+      | inr a ↦ grind (arith, nat_tests, apart q a, num q a, ν-old q a, t.heads q a)
     ];
     plains = λ q i nq g. elim (is q nq) [
-      | inl a ↦ at_new q 0 _ a ∙ sym (model-new q 0 (λ x. m.field x i) a)
-      | inr a ↦ at_old q 0 _ a ∙ t.plains q i a (rw (at_old q hd (h.head q) a) at g) ∙ sym (model_old q 0 (λ x. m.field x i) a)
+      | inl a ↦ grind (arith, nat_tests, ν-new q a)
+      | inr a ↦ grind (arith, nat_tests, apart q a, num q a, ν-old q a, t.plains q i a)
     ];
-    there = λ q i r nq g e. elim (is q nq) [
-      | inl a ↦ absurd (omega (arith, at_new q 0 (h.field q i) a))
-      | inr a ↦ into r (t.there q i r a (old_ref q i a g) (sym (at_old q 0 (h.field q i) a) ∙ e))
-    ];
+    there = λ q i r nq g e. elim (is q nq) [ inl a ↦ grind (arith, nat_tests) | inr a ↦ grind (arith, nat_tests, apart q a, t.there q i r a) ];
     same = λ q i r nq g e. elim (is q nq) [
-      | inl a ↦ absurd (omega (arith, at_new q 0 (h.field q i) a))
-      | inr a ↦ (let e' = sym (at_old q 0 (h.field q i) a) ∙ e in
-          model_old q 0 (λ x. m.field x i) a ∙ t.same q i r a (old_ref q i a g) e' ∙ ap suc (sym (ν-old r (t.there q i r a (old_ref q i a g) e'))))
+      | inl a ↦ grind (arith, nat_tests)
+      | inr a ↦ (let f : S.reference (h.head q) i ≡ true = grind (arith, nat_tests, apart q a) in
+          let d : h.field q i ≡ suc r = grind (arith, nat_tests, apart q a) in
+          let b = t.there q i r a f d in
+          grind (arith, nat_tests, num q a, ν-old q a, ν-old r b, t.same q i r a f d))
     ];
     lost = λ q i r nq g e nr z. elim (is q nq) [
-      | inl a ↦ omega (arith, model-new q 0 (λ x. m.field x i) a)
-      | inr a ↦ (let e' = sym (at_old q 0 (h.field q i) a) ∙ e in let z' = sym (model_old q 0 (λ x. m.field x i) a) ∙ z in elim (is r nr) [
-        | inl b ↦ (let w = c.fields (ν q) i n (t.numbered q a) (rw (t.heads q a) at (old_ref q i a g)) (z' ∙ ap suc (ν-new r b)) in grind arith)
-        | inr b ↦ t.lost q i r a (old_ref q i a g) e' b (z' ∙ ap suc (ν-old r b))
-      ])
+      | inl a ↦ grind (arith, nat_tests, ν-new q a)
+      | inr a ↦ (let f : S.reference (h.head q) i ≡ true = grind (arith, nat_tests, apart q a) in
+          let d : h.field q i ≡ 0 = grind (arith, nat_tests, apart q a) in
+          let y : m.field (ν q) i ≡ suc (renumbered ν p n r) = grind (arith, nat_tests, num q a, ν-old q a) in
+          elim (is r nr) [
+            | inl b ↦ (let w = c.fields (ν q) i n (t.numbered q a) (rw (t.heads q a) at f) (y ∙ ap suc (ν-new r b)) in grind arith)
+            | inr b ↦ t.lost q i r a f d b (y ∙ ap suc (ν-old r b))
+          ])
     ];
     found = λ o r. elim (less o r) [
       | inl a ↦ (p, grind (arith, nat_tests), ν-new p refl ∙ sym a)
       | inr a ↦ (let w = t.found o a in (w.0, into w.0 w.1, ν-old w.0 w.1 ∙ w.2))
     ];
   }
-    where
-      old_ref : (q i : ℕ) → h.node q ≡ true → S.reference (cond (eqb q p) hd (h.head q)) i ≡ true → S.reference (h.head q) i ≡ true
-      old_ref q i a g = rw (at_old q hd (h.head q) a) at g

@@ -1,10 +1,10 @@
 -- How the edits change the objects and roots of a content, seen as a graph; and that references go on naming objects.
-use Rattle.std.proofs.Common.{◌≡◌, ℕ, suc, ◌-◌, ◌<◌, ◌≤◌, true, false, cond, ◌&&◌, eqb, ltb, ◌⊎◌, List, [], length, get_or, set, replicate, sym, refl, ap, ◌∙◌, subst, inl, inr, arith}
+use Rattle.std.proofs.Common.{◌≡◌, ℕ, suc, ◌-◌, ◌<◌, ◌≤◌, true, cond, ◌&&◌, eqb, ltb, ◌⊎◌, List, [], length, get_or, set, replicate, sym, refl, ap, ◌∙◌, subst, inl, inr, arith}
 use Rattle.image.specs.Content.{Content, Object}
 use Rattle.layout.specs.Shape.{Shape, Lawful}
-use Rattle.std.proofs.lemmas.List.{length-set, get_or-set_same, get_or-set_other, get_or_past, get_or-replicate, length-replicate}
+use Rattle.std.proofs.lemmas.List.{length-set, get_or-set_same, get_or-set_other, length-replicate, places}
 use Rattle.std.proofs.lemmas.Bool.Decides.{nat_tests}
-use Rattle.std.proofs.lemmas.Bool.{cases_eq, cases_lt, lt-ltb, ltb-true}
+use Rattle.std.proofs.lemmas.Bool.{cases_eq, lt-ltb, ltb-true}
 use Rattle.model.specs.Edits.{start, object_at, word_at, with_root, with_word, graph_of}
 use Rattle.model.proofs.Adding.{Closed}
 use Rattle.model.proofs.Changes.{write, hold}
@@ -18,20 +18,11 @@ pub record Whole (S : Shape) (m : Content) : Type 0 where
 
 -- what a list holds after one place is set
 pub set_tells : {A : Type 0} (xs : List A) (i : ℕ) (v : A) (j : ℕ) (d : A) → i < length xs → get_or (set xs i v) j d ≡ cond (eqb j i) v (get_or xs j d)
-set_tells xs i v j d l = elim (cases_eq j i) [
-  | inl e ↦ ap (λ k. get_or (set xs i v) k d) e ∙ get_or-set_same xs i v d l ∙ sym (here e)
-  | inr e ↦ get_or-set_other xs i j v d e ∙ sym (there e)
-]
-  where
-    here : j ≡ i → cond (eqb j i) v (get_or xs j d) ≡ v
-    here e = grind (arith, nat_tests)
-
-    there : (j ≡ i → ⊥) → cond (eqb j i) v (get_or xs j d) ≡ get_or xs j d
-    there e = grind (arith, nat_tests)
+set_tells xs i v j d l = let a = get_or-set_same xs i v d l in let b = get_or-set_other xs i j v d in grind (arith, nat_tests)
 
 -- zeros are zeros
 pub zeros : (n k : ℕ) → get_or {A = ℕ} (replicate n 0) k 0 ≡ 0
-zeros n k = elim (cases_lt k n) [ inl l ↦ get_or-replicate n k 0 0 l | inr l ↦ get_or_past (replicate n 0) k 0 (omega (arith, length-replicate {A = ℕ} n 0)) ]
+zeros n k = grind (arith, places)
 
 pub start-whole : (S : Shape) → Whole S start
 start-whole S = record {
@@ -86,29 +77,10 @@ module _ {S : Shape} {m : Content} (w : Whole S m) where
     count-after = ap length objects-after ∙ length-set m.objects n changed
 
     head-after : (o : ℕ) → (object_at (with_word m (suc n) i v).objects o).header ≡ (object_at m.objects o).header
-    head-after o = ap (λ x. x.header) (at_object o) ∙ elim (cases_eq o n) [ inl e ↦ here e | inr e ↦ there e ]
-      where
-        here : o ≡ n → (cond (eqb o n) changed (object_at m.objects o)).header ≡ (object_at m.objects o).header
-        here e = let z : eqb o n ≡ true = grind (arith, nat_tests) in ap (λ b. (cond b changed (object_at m.objects o)).header) z ∙ ap (λ k. (object_at m.objects k).header) (sym e)
-
-        there : (o ≡ n → ⊥) → (cond (eqb o n) changed (object_at m.objects o)).header ≡ (object_at m.objects o).header
-        there e = let z : eqb o n ≡ false = grind (arith, nat_tests) in ap (λ b. (cond b changed (object_at m.objects o)).header) z
+    head-after o = let a = at_object o in grind (arith, nat_tests)
 
     field-after : (o j : ℕ) → 1 ≤ j → word_at (object_at (with_word m (suc n) i v).objects o) j ≡ cond (eqb o n && eqb j i) v (word_at (object_at m.objects o) j)
-    field-after o j p = ap (λ x. word_at x j) (at_object o) ∙ elim (cases_eq o n) [ inl e ↦ here e | inr e ↦ there e ]
-      where
-        here : o ≡ n → word_at (cond (eqb o n) changed (object_at m.objects o)) j ≡ cond (eqb o n && eqb j i) v (word_at (object_at m.objects o) j)
-        here e =
-            let z : eqb o n ≡ true = grind (arith, nat_tests) in
-            let t = set_tells (object_at m.objects n).body (i - 1) v (j - 1) 0 inside in
-            let a : get_or (object_at m.objects n).body (j - 1) 0 ≡ word_at (object_at m.objects o) j = ap (λ k. word_at (object_at m.objects k) j) (sym e) in
-            let b : cond (eqb (j - 1) (i - 1)) v (get_or (object_at m.objects n).body (j - 1) 0) ≡ cond (eqb o n && eqb j i) v (get_or (object_at m.objects n).body (j - 1) 0) = grind (arith, nat_tests) in
-            ap (λ b. word_at (cond b changed (object_at m.objects o)) j) z ∙ t ∙ b ∙ ap (λ x. cond (eqb o n && eqb j i) v x) a
-
-        there : (o ≡ n → ⊥) → word_at (cond (eqb o n) changed (object_at m.objects o)) j ≡ cond (eqb o n && eqb j i) v (word_at (object_at m.objects o) j)
-        there e =
-            let z : eqb o n ≡ false = grind (arith, nat_tests) in
-            ap (λ b. word_at (cond b changed (object_at m.objects o)) j) z ∙ sym (ap (λ b. cond (b && eqb j i) v (word_at (object_at m.objects o) j)) z)
+    field-after o j p = let a = at_object o in let t = set_tells (object_at m.objects n).body (i - 1) v (j - 1) 0 inside in grind (arith, nat_tests)
 
     pub word_equal : Equal (write (graph_of m) n i v) (graph_of (with_word m (suc n) i v))
     word_equal = record {
@@ -130,13 +102,7 @@ module _ {S : Shape} {m : Content} (w : Whole S m) where
     }
       where
         sized : (o : ℕ) → o < length m.objects → suc (length (object_at (with_word m (suc n) i v).objects o).body) ≡ S.size (object_at (with_word m (suc n) i v).objects o).header
-        sized o k = ap suc (long o) ∙ w.bodies o k ∙ ap S.size (sym (head-after o))
-          where
-            long : (o : ℕ) → length (object_at (with_word m (suc n) i v).objects o).body ≡ length (object_at m.objects o).body
-            long o = ap (λ x. length x.body) (at_object o) ∙ elim (cases_eq o n) [
-              | inl e ↦ (let z : eqb o n ≡ true = grind (arith, nat_tests) in ap (λ b. length (cond b changed (object_at m.objects o)).body) z ∙ length-set (object_at m.objects n).body (i - 1) v ∙ ap (λ k. length (object_at m.objects k).body) (sym e))
-              | inr e ↦ (let z : eqb o n ≡ false = grind (arith, nat_tests) in ap (λ b. length (cond b changed (object_at m.objects o)).body) z)
-            ]
+        sized o k = let a = at_object o in let b = w.bodies o k in let c = length-set (object_at m.objects n).body (i - 1) v in grind (arith, nat_tests)
 
         names : (o j q : ℕ) → ltb o (length m.objects) ≡ true → S.reference (object_at m.objects o).header j ≡ true → word_at (object_at (with_word m (suc n) i v).objects o) j ≡ suc q → ltb q (length m.objects) ≡ true
         names o j q k f e = elim (cases_eq o n) [

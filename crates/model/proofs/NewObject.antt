@@ -1,10 +1,10 @@
 -- One more object at the end of a content, with a body of zeros, which a root then holds: all others are as they were.
-use Rattle.std.proofs.Common.{◌≡◌, ℕ, suc, ◌+◌, ◌-◌, ◌<◌, Bool, true, false, cond, eqb, ltb, [], ◌∷◌, ◌++◌, length, replicate, sym, refl, ap, ◌∙◌, subst, inl, inr, arith}
+use Rattle.std.proofs.Common.{◌≡◌, ℕ, suc, ◌-◌, ◌<◌, true, cond, eqb, ltb, [], ◌∷◌, ◌++◌, length, replicate, sym, ap, ◌∙◌, subst, inl, inr, arith}
 use Rattle.image.specs.Content.{Content, Object}
 use Rattle.layout.specs.Shape.{Shape, Lawful}
-use Rattle.std.proofs.lemmas.List.{length_push, get_or_push, get_or_append_left, get_or_past, length-replicate}
+use Rattle.std.proofs.lemmas.List.{length_push, get_or_push, get_or_append_left, length-replicate, places}
 use Rattle.std.proofs.lemmas.Bool.Decides.{nat_tests}
-use Rattle.std.proofs.lemmas.Bool.{cases_eq, cases_lt, lt-ltb, ltb-true}
+use Rattle.std.proofs.lemmas.Bool.{cases_eq, lt-ltb, ltb-true}
 use Rattle.model.specs.Edits.{object_at, word_at, with_root, with_object, graph_of}
 use Rattle.model.proofs.Changes.{hold, add}
 use Rattle.model.proofs.Contents.{Whole, set_tells, zeros, root-whole}
@@ -21,39 +21,16 @@ module _ {S : Shape} {m : Content} (w : Whole S m) (h root : ℕ) (l : root < 64
   none = record { header = 0; body = [] }
 
   object-after : (o : ℕ) → object_at (m.objects ++ (made ∷ [])) o ≡ cond (eqb o n) made (object_at m.objects o)
-  object-after o = elim (cases_eq o n) [
-    | inl e ↦ get_or_push m.objects made none o (sym e) ∙ sym (here e)
-    | inr e ↦ (elim (cases_lt o n) [
-      | inl k ↦ get_or_append_left m.objects (made ∷ []) none o k
-      | inr k ↦ get_or_past (m.objects ++ (made ∷ [])) o none (omega (arith, length_push m.objects made)) ∙ sym (get_or_past m.objects o none k)
-    ]) ∙ sym (there e)
-  ]
-    where
-      here : o ≡ n → cond (eqb o n) made (object_at m.objects o) ≡ made
-      here e = let z : eqb o n ≡ true = grind (arith, nat_tests) in ap (λ b. cond b made (object_at m.objects o)) z
-
-      there : (o ≡ n → ⊥) → cond (eqb o n) made (object_at m.objects o) ≡ object_at m.objects o
-      there e = let z : eqb o n ≡ false = grind (arith, nat_tests) in ap (λ b. cond b made (object_at m.objects o)) z
+  object-after o = grind (arith, nat_tests, places)
 
   head-after : (o : ℕ) → (object_at (m.objects ++ (made ∷ [])) o).header ≡ cond (eqb o n) h (object_at m.objects o).header
-  head-after o = ap (λ x. x.header) (object-after o) ∙ go (eqb o n)
-    where
-      go : (b : Bool) → (cond b made (object_at m.objects o)).header ≡ cond b h (object_at m.objects o).header
-      go true = refl
-      go false = refl
+  head-after o = let a = object-after o in grind (arith, nat_tests)
 
   field-after : (o i : ℕ) → word_at (object_at (m.objects ++ (made ∷ [])) o) i ≡ cond (eqb o n) 0 (word_at (object_at m.objects o) i)
-  field-after o i = ap (λ x. word_at x i) (object-after o) ∙ go (eqb o n)
-    where
-      go : (b : Bool) → word_at (cond b made (object_at m.objects o)) i ≡ cond b 0 (word_at (object_at m.objects o) i)
-      go true = zeros (S.size h - 1) (i - 1)
-      go false = refl
+  field-after o i = let a = object-after o in let z = zeros (S.size h - 1) (i - 1) in grind (arith, nat_tests)
 
   node-after : (o : ℕ) → ltb o (length (m.objects ++ (made ∷ []))) ≡ cond (eqb o n) true (ltb o n)
-  node-after o = let e = length_push m.objects made in ap (ltb o) e ∙ tidy o n
-    where
-      tidy : (o n : ℕ) → ltb o (n + 1) ≡ cond (eqb o n) true (ltb o n)
-      tidy o n = grind (arith, nat_tests)
+  node-after o = let e = length_push m.objects made in grind (arith, nat_tests)
 
   pub new_equal : Equal (hold (add (graph_of m) n h) root (suc n)) (graph_of (with_root (with_object S m h) root (suc n)))
   new_equal = record {
