@@ -1,36 +1,38 @@
 -- Whether the objects of an image find space in four regions, and the verdict on bytes.
-use Rattle.std.specs.Prelude.{◌≡◌, ℕ, ◌-◌, ◌*◌, ◌≤◌, cond, List, length, Ok, Err, fold, Result, nat_le, nat_lt}
+use Rattle.std.specs.Prelude.{◌≡◌, ℕ, ◌-◌, ◌*◌, ◌≤◌, cond, List, length, Some, None, Ok, Err, fold, Option, Result, nat_le, nat_lt, is_some, option_and_then, if◌then◌else◌}
 use Rattle.layout.specs.Cabling.{cabling}
 use Rattle.image.specs.declared.refusals.Refusal.{Refusal}
 use Rattle.image.specs.Content.{Content, headers}
 use Rattle.image.specs.Read.{read}
 use Rattle.image.specs.Stage.{summary_of}
+use Rattle.verdict.specs.declared.placement.Space.{Space}
 use Rattle.verdict.specs.declared.placement.Placement.{Placement}
-use Rattle.verdict.specs.declared.placement.Placement.TheVariants as placement
 use Rattle.verdict.specs.declared.Verdict.{Verdict}
 use Rattle.verdict.specs.declared.Verdict.TheVariants as verdict
 
 -- the next object goes into the open region if it fits the words left there; else another region opens if at least
 -- two are free; else there is no space
+abbrev pub space_after : Space → ℕ → Option Space
+space_after s size =
+    cond (nat_le size s.left) (Some (record { free = s.free; left = s.left - size }))
+    (cond (nat_le 2 s.free) (Some (record { free = s.free - 1; left = 1024 - size })) None)
+
+-- once an object found no space, none does
 abbrev pub placed : Placement → ℕ → Placement
-placed (placement.Space free left) size =
-    cond (nat_le size left) (placement.Space free (left - size))
-    (cond (nat_le 2 free) (placement.Space (free - 1) (1024 - size)) placement.Lacking)
-placed placement.Lacking size = placement.Lacking
+placed p size = record { space = option_and_then (λ s. space_after s size) p.space }
 
 abbrev pub placed_header : Placement → ℕ → Placement
 placed_header p h = placed p (cabling.size h)
 
 -- four free regions, and none open
 abbrev pub start : Placement
-start = placement.Space 4 0
+start = record { space = Some (record { free = 4; left = 0 }) }
 
 abbrev pub placed_all : List ℕ → Placement
 placed_all hs = fold placed_header start hs
 
 abbrev pub after_placing : Placement → Content → Verdict
-after_placing (placement.Space free left) c = verdict.Sound (summary_of cabling c)
-after_placing placement.Lacking c = verdict.NoSpace
+after_placing p c = if is_some p.space then verdict.Sound (summary_of cabling c) else verdict.NoSpace
 
 abbrev pub after_reading : Result Content Refusal → Verdict
 after_reading (Ok c) = after_placing (placed_all (headers c.objects)) c

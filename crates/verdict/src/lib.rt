@@ -17,6 +17,8 @@ use std::fmt;
 pub const LONGEST: usize = 8192;
 
 /// What is said of an image.
+//
+// No `Result`: none of the four is an error to its caller, which prints each.
 #[derive(Clone, Copy)]
 pub enum Verdict {
     /// It has more than 8,192 bytes.
@@ -40,10 +42,8 @@ pub fn judge(bytes: &[u8]) -> Verdict
     }
     let mut placement = Placement::new();
     match image::visit::<Cabling, Placement>(bytes, &mut placement) {
-        Ok(summary) => match placement {
-            Placement::Space { .. } => Verdict::Sound(summary),
-            Placement::Lacking => Verdict::NoSpace,
-        },
+        Ok(summary) if placement.space.is_some() => Verdict::Sound(summary),
+        Ok(_) => Verdict::NoSpace,
         Err(refusal) => Verdict::Faulty(refusal),
     }
 }
@@ -55,7 +55,7 @@ impl fmt::Display for Verdict {
         match *self {
             Verdict::TooLong => write!(f, "too long"),
             Verdict::Faulty(refusal) => {
-                let number = refusal.fault.refusal();
+                let number = u32::from(refusal.fault);
                 let place = refusal.place;
                 let object = refusal.object;
                 write!(f, "refused {number} at {place} object {object}")

@@ -4,13 +4,17 @@ use Rattle.verdict.specs.Space.{verdict_of}
 use Rattle.verdict.proofs.Space.{verdict_fits, work_list}
 use Rattle.verdict.proofs.judge.Goals as goal
 
-pub returns-in-Space : goal.returns-in-Space
-returns-in-Space c =
+pub returns-in-Ok-clause-fits : goal.returns-in-Ok-clause-fits
+returns-in-Ok-clause-fits c =
     let value : verdict.Sound c.in-Ok.summary ≡ verdict_of c.args.bytes.now = search rules in
-    let q = c.in-Ok.ensures in
-    record { value = value; fits = verdict_fits c.args.bytes.now _ value; work_list = work_list c.args.bytes.now _ q.reads q.exact q.within }
+    verdict_fits c.args.bytes.now _ value
 
-pub returns-in-Lacking : goal.returns-in-Lacking
-returns-in-Lacking c =
+pub returns-in-Ok-clause-work_list : goal.returns-in-Ok-clause-work_list
+returns-in-Ok-clause-work_list c =
     let q = c.in-Ok.ensures in
-    record { value = search rules; fits = tt; work_list = work_list c.args.bytes.now _ q.reads q.exact q.within }
+    work_list c.args.bytes.now _ q.reads q.exact q.within
+
+pub returns-in-Ok-2-clause-work_list : goal.returns-in-Ok-2-clause-work_list
+returns-in-Ok-2-clause-work_list c =
+    let q = c.in-Ok.ensures in
+    work_list c.args.bytes.now _ q.reads q.exact q.within
