@@ -13,7 +13,7 @@ use Rattle.model.proofs.Contents.{set_tells}
 use Rattle.std.proofs.lemmas.Bool.Decides.{nat_tests}
 use Rattle.std.proofs.lemmas.Bool.{cases_Bool, cases_eq, cond-true, cond-false, ltb-true, and_parts, both_ways}
 use Rattle.life.proofs.Agree.{Agree, object_is}
-use Rattle.life.proofs.Ends.{GetEnds, no, yes, get_ends}
+use Rattle.life.proofs.InBoth.{GetInBoth, no, yes, get_in_both}
 use Rattle.life.proofs.EditedSame.{same_edits, edits_as}
 use Rattle.life.proofs.Facts.{Named, Edits}
 
@@ -63,9 +63,9 @@ module _ {S : Shape} {s : State} {m : Content} {ν : ℕ → ℕ} (a : Agree S s
       go e x = hold_edits (with_heap_root s i None) i 0 None (ltb-true i 64 e) x.effect.0 x.effect.1 (λ n z. absurd (omega arith))
 
   pub get_edits : (i position k : ℕ) → Keeps S s (λ t r. Gets S s t i position k r) (get_reference S s i position k) → Edits S s (get_reference S s i position k).1 m (model_get S m i position k).1 ν ν
-  get_edits i position k keep = go (get_ends a i position k) keep
+  get_edits i position k keep = go (get_in_both a i position k) keep
     where
-      go : {x : Result (Unit {0}) Refusal × State} {y : Result (Unit {0}) Refusal × Content} → GetEnds S s m ν i position k x y → Keeps S s (λ t r. Gets S s t i position k r) x → Edits S s x.1 m y.1 ν ν
+      go : {x : Result (Unit {0}) Refusal × State} {y : Result (Unit {0}) Refusal × Content} → GetInBoth S s m ν i position k x y → Keeps S s (λ t r. Gets S s t i position k r) x → Edits S s x.1 m y.1 ν ν
       go (no why) x = same_edits S s m ν
       go (yes p e n st z f) x =
           let t = with_heap_root s k (named_by (word_in s (p + position))) in

@@ -19,7 +19,7 @@ use Rattle.std.proofs.lemmas.List.{length-set}
 use Rattle.std.proofs.lemmas.Bool.Decides.{nat_tests}
 use Rattle.std.proofs.lemmas.Bool.{cases_eq, both_ways}
 use Rattle.life.proofs.Agree.{Agree, number_below}
-use Rattle.life.proofs.Ends.{SetEnds, PutEnds, no, yes, set_ends, put_ends}
+use Rattle.life.proofs.InBoth.{SetInBoth, PutInBoth, no, yes, set_in_both, put_in_both}
 use Rattle.life.proofs.EditedSame.{same_edits}
 use Rattle.life.proofs.Facts.{Named, Edits}
 use Rattle.life.proofs.Words.{wrote_looks}
@@ -95,9 +95,9 @@ module _ {S : Shape} (law : Lawful S) {s : State} {m : Content} {ν : ℕ → �
             off d = grind (arith, nat_tests)
 
   pub set_edits : (i position k : ℕ) → Keeps S s (λ t r. Sets S s t i position k r) (set_reference S s i position k) → Edits S s (set_reference S s i position k).1 m (model_set S m i position k).1 ν ν
-  set_edits i position k keep = go (set_ends a i position k) keep
+  set_edits i position k keep = go (set_in_both a i position k) keep
     where
-      go : {x : Result (Unit {0}) Refusal × State} {y : Result (Unit {0}) Refusal × Content} → SetEnds S s m ν i position k x y → Keeps S s (λ t r. Sets S s t i position k r) x → Edits S s x.1 m y.1 ν ν
+      go : {x : Result (Unit {0}) Refusal × State} {y : Result (Unit {0}) Refusal × Content} → SetInBoth S s m ν i position k x y → Keeps S s (λ t r. Sets S s t i position k r) x → Edits S s x.1 m y.1 ν ν
       go (no why) x = same_edits S s m ν
       go (yes p e n st z f) x =
           let t = storing s p position (reference_to (root_in s k)) in
@@ -120,9 +120,9 @@ module _ {S : Shape} (law : Lawful S) {s : State} {m : Content} {ν : ℕ → �
           (λ d. refl) (λ d q v. (k, v)))
 
   pub put_edits : (i position word : ℕ) → Keeps S s (λ t r. Puts S s t i position word r) (put_word S s i position word) → Edits S s (put_word S s i position word).1 m (model_put S m i position word).1 ν ν
-  put_edits i position word keep = go (put_ends a i position word) keep
+  put_edits i position word keep = go (put_in_both a i position word) keep
     where
-      go : {x : Result (Unit {0}) Refusal × State} {y : Result (Unit {0}) Refusal × Content} → PutEnds S s m ν i position word x y → Keeps S s (λ t r. Puts S s t i position word r) x → Edits S s x.1 m y.1 ν ν
+      go : {x : Result (Unit {0}) Refusal × State} {y : Result (Unit {0}) Refusal × Content} → PutInBoth S s m ν i position word x y → Keeps S s (λ t r. Puts S s t i position word r) x → Edits S s x.1 m y.1 ν ν
       go (no why) x = same_edits S s m ν
       go (yes p e n st z f) x =
           let t = with_heap_word s (p + position) word in

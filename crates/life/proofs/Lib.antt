@@ -1,6 +1,6 @@
 pub mod Agree
 pub mod Answering
-pub mod Ends
+pub mod InBoth
 pub mod Words
 pub mod Roots
 pub mod News

@@ -15,7 +15,7 @@ use Rattle.model.proofs.Holding.{root_matched, field_matched, tied_hold}
 use Rattle.model.proofs.Views.{Looks, tied_looks, tied_equal}
 use Rattle.std.proofs.lemmas.Bool.{cases_Bool, cond-true, cond-false, eq-eqb, ne_eqb, ltb-true, and_parts}
 use Rattle.life.proofs.Agree.{Agree, object_is, reached, reference_is}
-use Rattle.life.proofs.Ends.{GetEnds, no, yes, get_ends}
+use Rattle.life.proofs.InBoth.{GetInBoth, no, yes, get_in_both}
 use Rattle.life.proofs.Words.{Alike, alike}
 
 -- a reference that is nil or names an object is that of what it names
@@ -67,9 +67,9 @@ module _ {S : Shape} (law : Lawful S) {s : State} {m : Content} {ν : ℕ → �
       go e x = hold_agree (with_heap_root s i None) i 0 None (ltb-true i 64 e) x.sound x.effect.0 nil (λ o z. absurd (omega arith))
 
   pub get_alike : (i position k : ℕ) → Keeps S s (λ t r. Gets S s t i position k r) (get_reference S s i position k) → Alike S ν (get_reference S s i position k) (model_get S m i position k)
-  get_alike i position k keep = go (get_ends a i position k) keep
+  get_alike i position k keep = go (get_in_both a i position k) keep
     where
-      go : {x : Result (Unit {0}) Refusal × State} {y : Result (Unit {0}) Refusal × Content} → GetEnds S s m ν i position k x y → Keeps S s (λ t r. Gets S s t i position k r) x → Alike S ν x y
+      go : {x : Result (Unit {0}) Refusal × State} {y : Result (Unit {0}) Refusal × Content} → GetInBoth S s m ν i position k x y → Keeps S s (λ t r. Gets S s t i position k r) x → Alike S ν x y
       go (no why) x = (refl, a)
       go (yes p e n st z f) x = (refl, agree)
         where

@@ -19,7 +19,7 @@ use Rattle.model.proofs.Writing.{tied_reference, tied_plain, not_both}
 use Rattle.std.proofs.lemmas.Bool.Decides.{nat_tests}
 use Rattle.std.proofs.lemmas.Bool.{cases_eq, ltb-true}
 use Rattle.life.proofs.Agree.{Agree, number_below}
-use Rattle.life.proofs.Ends.{SetEnds, PutEnds, no, yes, set_ends, put_ends}
+use Rattle.life.proofs.InBoth.{SetInBoth, PutInBoth, no, yes, set_in_both, put_in_both}
 
 -- what is shown of an edit that alters: the answers are the same, and the two agree after it
 abbrev pub Alike : Shape → (ℕ → ℕ) → Result (Unit {0}) Refusal × State → Result (Unit {0}) Refusal × Content → Type 0
@@ -76,12 +76,12 @@ module _ {S : Shape} (law : Lawful S) {s : State} {m : Content} {ν : ℕ → �
     }
 
   pub set_alike : (i position k : ℕ) → Keeps S s (λ t r. Sets S s t i position k r) (set_reference S s i position k) → Alike S ν (set_reference S s i position k) (model_set S m i position k)
-  set_alike i position k keep = go (set_ends a i position k) keep
+  set_alike i position k keep = go (set_in_both a i position k) keep
     where
       named : (q : ℕ) → held m k ≡ suc q → q < length m.objects
       named q z = ltb-true q _ (a.whole.closed.roots k q z)
 
-      go : {x : Result (Unit {0}) Refusal × State} {y : Result (Unit {0}) Refusal × Content} → SetEnds S s m ν i position k x y → Keeps S s (λ t r. Sets S s t i position k r) x → Alike S ν x y
+      go : {x : Result (Unit {0}) Refusal × State} {y : Result (Unit {0}) Refusal × Content} → SetInBoth S s m ν i position k x y → Keeps S s (λ t r. Sets S s t i position k r) x → Alike S ν x y
       go (no why) x = (refl, a)
       go (yes p e n st z f) x = (refl, agree)
         where
@@ -97,9 +97,9 @@ module _ {S : Shape} (law : Lawful S) {s : State} {m : Content} {ν : ℕ → �
               (set_agree t p position w (held m k) st b.0 b.1 x.sound y f (root_matched a.tied k) named)
 
   pub put_alike : (i position word : ℕ) → Keeps S s (λ t r. Puts S s t i position word r) (put_word S s i position word) → Alike S ν (put_word S s i position word) (model_put S m i position word)
-  put_alike i position word keep = go (put_ends a i position word) keep
+  put_alike i position word keep = go (put_in_both a i position word) keep
     where
-      go : {x : Result (Unit {0}) Refusal × State} {y : Result (Unit {0}) Refusal × Content} → PutEnds S s m ν i position word x y → Keeps S s (λ t r. Puts S s t i position word r) x → Alike S ν x y
+      go : {x : Result (Unit {0}) Refusal × State} {y : Result (Unit {0}) Refusal × Content} → PutInBoth S s m ν i position word x y → Keeps S s (λ t r. Puts S s t i position word r) x → Alike S ν x y
       go (no why) x = (refl, a)
       go (yes p e n st z f) x = (refl, agree)
         where

@@ -25,20 +25,20 @@ of_nil : {A : Type 0} (m : Content) (i : ℕ) (done : Result A Refusal × Conten
 of_nil m i done e = cond-true (eqb (held m i) 0) _ _ (eq-eqb (held m i) 0 e)
 
 -- both heaps are as they were, or one is T of the place of the object that root i holds, and the other is M
-pub data Ends (s : State) (m : Content) (ν : ℕ → ℕ) (within : Bool) (i : ℕ) (fits : ℕ → Bool) (T : ℕ → State) (M : Content) : Result (Unit {0}) Refusal × State → Result (Unit {0}) Refusal × Content → Type 0 where
-  no : (why : Refusal) → Ends s m ν within i fits T M (Err why, s) (Err why, m)
+pub data InBoth (s : State) (m : Content) (ν : ℕ → ℕ) (within : Bool) (i : ℕ) (fits : ℕ → Bool) (T : ℕ → State) (M : Content) : Result (Unit {0}) Refusal × State → Result (Unit {0}) Refusal × Content → Type 0 where
+  no : (why : Refusal) → InBoth s m ν within i fits T M (Err why, s) (Err why, m)
   yes : (p : ℕ) → within ≡ true → root_in s i ≡ Some p → s.starts p ≡ true → held m i ≡ suc (ν p) → fits (word_in s p) ≡ true
-      → Ends s m ν within i fits T M (Ok tt, T p) (Ok tt, M)
+      → InBoth s m ν within i fits T M (Ok tt, T p) (Ok tt, M)
 
 module _ {S : Shape} {s : State} {m : Content} {ν : ℕ → ℕ} (a : Agree S s m ν) where
-  object_ends : (within : Bool) (i : ℕ) (fits : ℕ → Bool) (T : ℕ → State) (M : Content) (at : Option ℕ → Result (Unit {0}) Refusal × State)
+  object_in_both : (within : Bool) (i : ℕ) (fits : ℕ → Bool) (T : ℕ → State) (M : Content) (at : Option ℕ → Result (Unit {0}) Refusal × State)
       → at None ≡ (Err RootNil, s) → ((p : ℕ) → at (Some p) ≡ cond (fits (word_in s p)) (Ok tt, T p) (Err WrongPosition, s))
-      → Ends s m ν within i fits T M (cond within (at (root_in s i)) (Err RootAbove63, s))
+      → InBoth s m ν within i fits T M (cond within (at (root_in s i)) (Err RootAbove63, s))
       (cond within (of_object m i (cond (fits (numbered m (held m i)).header) (Ok tt, M) (Err WrongPosition, m))) (Err RootAbove63, m))
-  object_ends within i fits T M at nil_is is = both_cond E within (λ e. go e (at_root a i)) (λ e. no RootAbove63)
+  object_in_both within i fits T M at nil_is is = both_cond E within (λ e. go e (at_root a i)) (λ e. no RootAbove63)
     where
       E : Result (Unit {0}) Refusal × State → Result (Unit {0}) Refusal × Content → Type 0
-      E = Ends s m ν within i fits T M
+      E = InBoth s m ν within i fits T M
 
       done : ℕ → Result (Unit {0}) Refusal × Content
       done h = cond (fits h) (Ok tt, M) (Err WrongPosition, m)
@@ -50,24 +50,24 @@ module _ {S : Shape} {s : State} {m : Content} {ν : ℕ → ℕ} (a : Agree S s
           (subst (λ y. E (cond (fits (word_in s p)) (Ok tt, T p) (Err WrongPosition, s)) y) (ap done (head_is a i p st z) ∙ sym (of_object_lem m i (ν p) _ z))
           (both_cond E (fits (word_in s p)) (λ f. yes p e n st z f) (λ f. no WrongPosition)))
 
-abbrev pub SetEnds : Shape → State → Content → (ℕ → ℕ) → ℕ → ℕ → ℕ → Result (Unit {0}) Refusal × State → Result (Unit {0}) Refusal × Content → Type 0
-SetEnds S s m ν i position k =
-    Ends s m ν (ltb i 64 && ltb k 64) i (λ h. S.reference h position) (λ p. storing s p position (reference_to (root_in s k))) (with_word m (held m i) position (held m k))
+abbrev pub SetInBoth : Shape → State → Content → (ℕ → ℕ) → ℕ → ℕ → ℕ → Result (Unit {0}) Refusal × State → Result (Unit {0}) Refusal × Content → Type 0
+SetInBoth S s m ν i position k =
+    InBoth s m ν (ltb i 64 && ltb k 64) i (λ h. S.reference h position) (λ p. storing s p position (reference_to (root_in s k))) (with_word m (held m i) position (held m k))
 
-abbrev pub GetEnds : Shape → State → Content → (ℕ → ℕ) → ℕ → ℕ → ℕ → Result (Unit {0}) Refusal × State → Result (Unit {0}) Refusal × Content → Type 0
-GetEnds S s m ν i position k =
-    Ends s m ν (ltb i 64 && ltb k 64) i (λ h. S.reference h position) (λ p. with_heap_root s k (named_by (word_in s (p + position)))) (with_root m k (word_at (numbered m (held m i)) position))
+abbrev pub GetInBoth : Shape → State → Content → (ℕ → ℕ) → ℕ → ℕ → ℕ → Result (Unit {0}) Refusal × State → Result (Unit {0}) Refusal × Content → Type 0
+GetInBoth S s m ν i position k =
+    InBoth s m ν (ltb i 64 && ltb k 64) i (λ h. S.reference h position) (λ p. with_heap_root s k (named_by (word_in s (p + position)))) (with_root m k (word_at (numbered m (held m i)) position))
 
-abbrev pub PutEnds : Shape → State → Content → (ℕ → ℕ) → ℕ → ℕ → ℕ → Result (Unit {0}) Refusal × State → Result (Unit {0}) Refusal × Content → Type 0
-PutEnds S s m ν i position word =
-    Ends s m ν (ltb i 64) i (λ h. plain S h position) (λ p. with_heap_word s (p + position) word) (with_word m (held m i) position word)
+abbrev pub PutInBoth : Shape → State → Content → (ℕ → ℕ) → ℕ → ℕ → ℕ → Result (Unit {0}) Refusal × State → Result (Unit {0}) Refusal × Content → Type 0
+PutInBoth S s m ν i position word =
+    InBoth s m ν (ltb i 64) i (λ h. plain S h position) (λ p. with_heap_word s (p + position) word) (with_word m (held m i) position word)
 
 module _ {S : Shape} {s : State} {m : Content} {ν : ℕ → ℕ} (a : Agree S s m ν) where
-  pub set_ends : (i position k : ℕ) → SetEnds S s m ν i position k (set_reference S s i position k) (model_set S m i position k)
-  set_ends i position k = object_ends a _ i _ _ _ (λ o. set_at S s o position (reference_to (root_in s k))) refl (λ p. refl)
+  pub set_in_both : (i position k : ℕ) → SetInBoth S s m ν i position k (set_reference S s i position k) (model_set S m i position k)
+  set_in_both i position k = object_in_both a _ i _ _ _ (λ o. set_at S s o position (reference_to (root_in s k))) refl (λ p. refl)
 
-  pub get_ends : (i position k : ℕ) → GetEnds S s m ν i position k (get_reference S s i position k) (model_get S m i position k)
-  get_ends i position k = object_ends a _ i _ _ _ (λ o. get_at S s o position k) refl (λ p. refl)
+  pub get_in_both : (i position k : ℕ) → GetInBoth S s m ν i position k (get_reference S s i position k) (model_get S m i position k)
+  get_in_both i position k = object_in_both a _ i _ _ _ (λ o. get_at S s o position k) refl (λ p. refl)
 
-  pub put_ends : (i position word : ℕ) → PutEnds S s m ν i position word (put_word S s i position word) (model_put S m i position word)
-  put_ends i position word = object_ends a _ i _ _ _ (λ o. put_at S s o position word) refl (λ p. refl)
+  pub put_in_both : (i position word : ℕ) → PutInBoth S s m ν i position word (put_word S s i position word) (model_put S m i position word)
+  put_in_both i position word = object_in_both a _ i _ _ _ (λ o. put_at S s o position word) refl (λ p. refl)
