@@ -4,6 +4,7 @@
 mod asks;
 mod day;
 
+use day::COUNT;
 use daybook::Line;
 use layout::Cabling;
 use life::{Answer, live};
@@ -15,8 +16,8 @@ const BYTES: usize = 4 * 1024 * 4 + 2;
 
 fn main(rt: HostRuntime) -> Result<(), io::Error> {
     let store = ByteStore::new(vec![in rt.alloc(); 0u8; BYTES]?);
-    let calls = day::calls(rt.alloc())?;
-    let mut answers = vec![in rt.alloc(); Ok(Answer::Begun); calls.len()]?;
+    let calls = day::calls();
+    let mut answers = [Ok(Answer::Begun); COUNT];
     let _heap = live::<ByteStore, Cabling>(store, &calls, &mut answers);
     for (call, answer) in calls.into_iter().zip(answers) {
         let line = Line { call, answer };
