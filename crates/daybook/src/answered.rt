@@ -26,7 +26,7 @@ impl fmt::Display for Answered {
             Ok(Answer::Mark(Marked::Done)) => write!(f, "done"),
             Ok(Answer::Refine(Refined::Refined)) => write!(f, "refined"),
             Ok(Answer::Refine(Refined::Clean)) => write!(f, "clean"),
-            Err(refusal) => write!(f, "refused {}", refusal.number()),
+            Err(refusal) => write!(f, "refused {}", u32::from(refusal)),
         }
     }
 }

@@ -23,12 +23,12 @@ pub enum Refusal {
     NotMarked,
 }
 
-impl Refusal {
-    /// The number by which the refusal is reported.
-    pub fn number(self) -> u32
-        ensures { result ≡ number_of self }
-    {
-        match self {
+/// The number by which the refusal is reported.
+impl From<Refusal> for u32 {
+    ghost from_gives = { λ refusal number. number ≡ number_of refusal };
+
+    fn from(refusal: Refusal) -> u32 {
+        match refusal {
             Refusal::RootAbove63 => 1,
             Refusal::IllegalHeader => 2,
             Refusal::RootNil => 31,

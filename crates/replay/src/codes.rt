@@ -64,6 +64,6 @@ pub fn value(answer: Result<Answer, Refusal>) -> u32
         Ok(Answer::Edit(Reply::Word(word))) => word,
         Ok(Answer::Edit(Reply::Same(same))) => u32::from(same),
         Ok(_) => 0,
-        Err(refusal) => refusal.number(),
+        Err(refusal) => u32::from(refusal),
     }
 }
