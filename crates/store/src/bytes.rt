@@ -41,7 +41,7 @@ impl Store for ByteStore {
     }
 
     fn read(&self, index: usize) -> Result<u32, Outside> {
-        let (words, _) = self.bytes.as_chunks();
+        let (words, _) = self.bytes.as_chunks::<4>();
         words
             .get(index)
             .map(|word| u32::from_le_bytes(*word))
