@@ -3,13 +3,14 @@
 use Rattle.std.proofs.Common.{◌≡◌, ℕ, ◌+◌, ◌*◌, ◌/◌, ◌%◌, ◌^◌, ◌<◌, ◌≤◌, Bool, false, cond, ◌&&◌, eqb, ltb, leb, List, length, get_or, set, replicate, sym, ap, ◌∙◌, ⊎_elim, arith, get_or-set_other, get_or-set_same}
 use mathlib.Core.Path.{fun_ext}
 use Rattle.std.proofs.lemmas.List.{get_or-replicate, get_or_past, length-replicate}
-use Rattle.std.proofs.lemmas.Bool.{cases_eq, cases_lt}
+use lib.Bits.{bit_and}
+use Rattle.std.proofs.lemmas.Bool.{cases_eq, cases_lt, lt-ltb, le-ltb}
 use Rattle.std.proofs.lemmas.Bool.Decides.{nat_tests}
 use Rattle.bitset.specs.Digit.{digit}
 use Rattle.bitset.specs.Members.{word_at, in_words}
 use Rattle.bitset.specs.Set.{empty, put, cut, Bounded}
 use Rattle.bitset.proofs.Digits.{digit_zero}
-use Rattle.bitset.proofs.Words.{Holds}
+use Rattle.bitset.proofs.Words.{Holds, holds_has}
 
 pub word_low : (ws : List ℕ) (w : ℕ) → w < 2 ^ 58 → word_at ws w ≡ get_or ws w 0
 word_low ws w h = grind (arith, nat_tests)
@@ -61,3 +62,13 @@ pub list-cut : (ws : List ℕ) (a b w y : ℕ) → w < length ws → w < 2 ^ 58 
 list-cut ws a b w y h l p q e =
     list_set ws w y (cut (in_words ws) a b) h l e
     (λ k ne. let z : (leb a k && ltb k b) ≡ false = grind (arith, nat_tests) in sym (ap (λ c. cond c false (in_words ws k)) z))
+
+-- the bit of a number in its word, if there is such a word, tells whether it is a member
+pub list_has : (ws : List ℕ) (i : ℕ) → i < 2 ^ 64 → (ltb (i / 64) (length ws) && eqb (bit_and (get_or ws (i / 64) 0 / 2 ^ (i % 64)) 1) 1) ≡ in_words ws i
+list_has ws i l =
+    ⊎_elim
+    (λ h. ap (λ b. b && eqb (bit_and (get_or ws (i / 64) 0 / 2 ^ (i % 64)) 1) 1) (lt-ltb (i / 64) (length ws) h)
+    ∙ holds_has (in_words ws) i (get_or ws (i / 64) 0) (list_holds ws (i / 64) (omega arith)))
+    (λ h. ap (λ b. b && eqb (bit_and (get_or ws (i / 64) 0 / 2 ^ (i % 64)) 1) 1) (le-ltb (i / 64) (length ws) h)
+    ∙ sym (list_bounded ws i (omega arith)))
+    (cases_lt (i / 64) (length ws))

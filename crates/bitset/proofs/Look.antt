@@ -1,12 +1,16 @@
 -- Looking for the first member, word by word: none stands before the word at w, and x holds what is left of that word. A
 -- word of 0 is passed, and in any other the lowest digit is the member looked for.
-use Rattle.std.proofs.Common.{◌≡◌, ℕ, ◌+◌, ◌*◌, ◌/◌, ◌%◌, ◌^◌, ◌<◌, ◌≤◌, Bool, false, ◌&&◌, leb, Some, None, sym, ap, ◌∙◌, subst, ⊎_elim, arith}
+use Rattle.std.proofs.Common.{◌≡◌, ℕ, ◌+◌, ◌-◌, ◌*◌, ◌/◌, ◌%◌, ◌^◌, ◌<◌, ◌≤◌, Bool, false, ◌&&◌, leb, List, get_or, take, Some, None, refl, sym, ap, ◌∙◌, subst, ⊎_elim, arith}
+use lib.Bits.{bit_and}
+use Rattle.std.proofs.lemmas.List.{get_or-take}
 use lib.Count.{count_trailing_zeros}
 use Rattle.std.proofs.lemmas.Bool.{cases_lt, le-leb, and_parts, leb-true}
 use Rattle.bitset.specs.Digit.{digit}
 use Rattle.bitset.specs.Set.{First, Bounded}
 use Rattle.bitset.proofs.Digits.{digit_zero, Lowest, lowest_trailing}
-use Rattle.bitset.proofs.Words.{Holds}
+use Rattle.bitset.proofs.Words.{Holds, holds_from}
+use Rattle.bitset.proofs.Lists.{list_holds}
+use Rattle.bitset.specs.Members.{in_words}
 
 -- no member from `from` on before the word at w
 abbrev pub Before : (ℕ → Bool) → ℕ → ℕ → Type 0
@@ -45,3 +49,15 @@ found f from w x t b h low =
 -- past the bound there is none
 pub none_left : (f : ℕ → Bool) (n from w : ℕ) → Bounded n f → Before f from w → n ≤ 64 * w → First f from None
 none_left f n from w s b l k h = ⊎_elim (λ o. b k h o) (λ o. s k (omega arith)) (cases_lt k (64 * w))
+
+-- ---- the words that a search goes over: the first m of a list, from that of `from` on
+
+pub none_before : (f : ℕ → Bool) (from : ℕ) → Before f from (from / 64)
+none_before f from k h l = absurd (omega arith)
+
+-- what is left of the first word
+pub left_first : (ws : List ℕ) (m from y x : ℕ) → m ≤ 2 ^ 58 → from / 64 < m → y ≡ get_or (take m ws) (from / 64) 0 → y < 2 ^ 64
+    → x ≡ bit_and y ((2 ^ 64 - 1) - (2 ^ (from % 64) - 1)) → Left (in_words ws) from (from / 64) x
+left_first ws m from y x small h here fits is =
+    let e : get_or ws (from / 64) 0 ≡ y = sym (here ∙ get_or-take m ws (from / 64) 0 h) in
+    holds_from (in_words ws) from (from / 64) y x refl fits is (subst (Holds (in_words ws) (from / 64)) e (list_holds ws (from / 64) (omega arith)))

@@ -6,7 +6,7 @@
 mod bits;
 mod word;
 
-ghost use Rattle.std.specs.Prelude.{◌≡◌, ◌-◌, ◌*◌, ◌<◌, ◌≤◌, false, replicate, IfSome, nat_lt};
+ghost use Rattle.std.specs.Prelude.{◌≡◌, ◌-◌, ◌*◌, ◌<◌, ◌≤◌, false, IfSome, nat_lt};
 ghost use Rattle.bitset.specs.Members.{members};
 ghost use Rattle.bitset.specs.Set.{Bounded, First, cut, empty, first_of, joined, put, tally};
 
@@ -15,19 +15,12 @@ pub use bits::BitSet;
 // The numbers of so many words fit a `usize`, and those of no word after them do.
 const MOST_WORDS: usize = 1 << 58;
 
-// W words of 0.
-fn zeros<const W: usize>() -> [u64; W]
-    ensures { result ≡ replicate W 0 }
-{
-    [0; W]
-}
-
 impl<const W: usize> BitSet<W> {
     /// The set with no members.
     pub fn new() -> Self
         ensures { members result ≡ empty }
     {
-        BitSet { words: zeros() }
+        BitSet { words: [0; W] }
     }
 
     /// Whether `i` is a member. No number at or past 64 * W is.
@@ -35,8 +28,9 @@ impl<const W: usize> BitSet<W> {
         ensures value { result ≡ members self.now i }
         ensures bound { Bounded (64 * W) (members self.now) }
     {
-        let w = i / 64;
-        w < W && word::has(self.words[w], i)
+        self.words
+            .get(i / 64)
+            .is_some_and(|word| word::has(*word, i))
     }
 
     /// Makes `i` a member if it is below 64 * W, and else alters nothing.
@@ -45,6 +39,7 @@ impl<const W: usize> BitSet<W> {
         ensures past { 64 * W ≤ i → members self.new ≡ members self.old }
         ensures joined { members self.new ≡ joined (64 * W) (members self.old) i }
     {
+        // By index: the contract of `get_mut` leaves open what the other words are after the write.
         let w = i / 64;
         if w < W {
             self.words[w] = word::with(self.words[w], i);
@@ -55,6 +50,7 @@ impl<const W: usize> BitSet<W> {
     pub fn remove(&mut self, i: usize)
         ensures { members self.new ≡ put (members self.old) i false }
     {
+        // By index: the contract of `get_mut` leaves open what the other words are after the write.
         let w = i / 64;
         if w < W {
             self.words[w] = word::without(self.words[w], i);
@@ -73,18 +69,13 @@ impl<const W: usize> BitSet<W> {
         ensures first { First (members self.now) from result }
         ensures bound { IfSome result (λ i. i < 64 * W) }
     {
-        let end = W.min(MOST_WORDS);
+        let words = &self.words[..W.min(MOST_WORDS)];
         let mut w = from / 64;
-        if w >= end {
-            return None;
-        }
-        let mut x = word::from(self.words[w], from);
+        let mut x = word::from(*words.get(w)?, from);
+        // A search by `position` takes a third longer where most words have members.
         while x == 0 {
             w += 1;
-            if w >= end {
-                return None;
-            }
-            x = self.words[w];
+            x = *words.get(w)?;
         }
         Some(64 * w + word::lowest(x))
     }
@@ -106,17 +97,16 @@ impl<const W: usize> BitSet<W> {
         if a >= b || low >= W {
             return 0;
         }
+        let words = &self.words[..];
         if low == high {
-            return word::size(word::below(word::from(self.words[low], a), b)) as usize;
+            return word::size(word::below(word::from(words[low], a), b));
         }
-        let mut n = word::size(word::from(self.words[low], a)) as usize;
-        for w in low + 1..high.min(W) {
-            n += word::size(self.words[w]) as usize;
-        }
-        if high < W {
-            n += word::size(word::below(self.words[high], b)) as usize;
-        }
-        n
+        let start = word::size(word::from(words[low], a));
+        let between = word::total(&words[low + 1..high.min(W)]);
+        let end = words
+            .get(high)
+            .map_or(0, |x| word::size(word::below(*x, b)));
+        start + between + end
     }
 
     /// Removes the members from `a` to below `b`.
@@ -128,16 +118,15 @@ impl<const W: usize> BitSet<W> {
         if a >= b || low >= W {
             return;
         }
+        let words = &mut self.words[..];
         if low == high {
-            self.words[low] = word::below(self.words[low], a) | word::from(self.words[low], b);
+            words[low] = word::below(words[low], a) | word::from(words[low], b);
             return;
         }
-        self.words[low] = word::below(self.words[low], a);
-        for w in low + 1..high.min(W) {
-            self.words[w] = 0;
-        }
+        words[low] = word::below(words[low], a);
+        words[low + 1..high.min(W)].fill(0);
         if high < W {
-            self.words[high] = word::from(self.words[high], b);
+            words[high] = word::from(words[high], b);
         }
     }
 }

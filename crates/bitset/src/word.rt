@@ -1,5 +1,7 @@
-//! One word of a bit set: the bit of a number `i` is at place `i % 64`.
-ghost use Rattle.std.specs.Prelude.{◌≡◌, ◌-◌, ◌/◌, ◌%◌, ◌^◌, ◌==◌, bit_and, bit_or, count_ones};
+//! Words of a bit set: in its word, the bit of a number `i` is at place `i % 64`.
+ghost use Rattle.std.specs.Prelude.{◌≡◌, ◌-◌, ◌/◌, ◌%◌, ◌^◌, ◌<◌, ◌==◌, ◌*◌, bit_and, bit_or, count_ones, length};
+ghost use Rattle.bitset.specs.Members.{in_words};
+ghost use Rattle.bitset.specs.Set.{tally};
 ghost use Rattle.std.specs.Int.Count.{count_trailing_zeros};
 
 /// The word with the bit of `i` alone.
@@ -59,8 +61,16 @@ pub(crate) fn lowest(x: u64) -> usize
 }
 
 /// How many bits `x` has.
-pub(crate) fn size(x: u64) -> u32
+pub(crate) fn size(x: u64) -> usize
     ensures { result ≡ count_ones x }
 {
-    x.count_ones()
+    x.count_ones() as usize
+}
+
+/// How many numbers the words hold.
+pub(crate) fn total(words: &[u64]) -> usize
+    requires { length words.now < 2 ^ 58 }
+    ensures { result ≡ tally (in_words words.now) 0 (64 * length words.now) }
+{
+    words.iter().map(|x| size(*x)).sum()
 }
