@@ -25,13 +25,18 @@ fn fill(set: &mut BitSet<512>, seed: u64, tries: u64) -> u64 {
     state
 }
 
+/// A checksum, by 31 times what it was plus the next number.
+fn add(sum: u64, number: usize) -> u64 {
+    sum.wrapping_mul(31).wrapping_add(number as u64)
+}
+
 /// Removes all members from the lowest on, and adds them into a checksum.
 fn drained(set: &mut BitSet<512>) -> u64 {
-    let mut sum = 0u64;
+    let mut sum = 0;
     let mut from = 0;
     while let Some(k) = set.first(from) {
         set.remove(k);
-        sum = sum.wrapping_mul(31).wrapping_add(k as u64);
+        sum = add(sum, k);
         from = k + 1;
     }
     sum
@@ -39,11 +44,11 @@ fn drained(set: &mut BitSet<512>) -> u64 {
 
 /// Counts and removes the members of ranges of 512 numbers that begin at `shift`, and adds the counts into a checksum.
 fn swept(set: &mut BitSet<512>, shift: usize) -> u64 {
-    let mut sum = 0u64;
+    let mut sum = 0;
     let mut a = 0;
     for r in 0..65 {
         let b = 512 * r + shift % 512;
-        sum = sum.wrapping_mul(31).wrapping_add(set.count(a, b) as u64);
+        sum = add(sum, set.count(a, b));
         set.remove_range(a, b);
         a = b;
     }
@@ -56,9 +61,22 @@ fn hits(set: &BitSet<512>, seed: u64, tries: u64) -> u64 {
     let mut sum = 0u64;
     for _ in 0..tries {
         state = next(state);
-        if set.contains(number(state)) {
-            sum = sum.wrapping_add(1);
-        }
+        sum = sum.wrapping_add(u64::from(set.contains(number(state))));
+    }
+    sum
+}
+
+/// Fills a set and has `work` done on it, which empties it and tells a number, `rounds` times. Adds those numbers. `work` is
+/// given the state of the sequence after the set was filled.
+fn repeated<F: Fn(&mut BitSet<512>, u64) -> u64>(seed: u64, tries: u64, rounds: u64, work: F) -> u64
+    requires { F.IsAlwaysCallable work }
+{
+    let mut set = BitSet::new();
+    let mut state = seed;
+    let mut sum = 0u64;
+    for _ in 0..rounds {
+        state = fill(&mut set, state, tries);
+        sum = sum.wrapping_add(work(&mut set, state));
     }
     sum
 }
@@ -66,39 +84,21 @@ fn hits(set: &BitSet<512>, seed: u64, tries: u64) -> u64 {
 /// Fills and drains a set, `rounds` times.
 #[unsafe(no_mangle)]
 pub extern "C" fn bitset_drain(seed: u64, tries: u64, rounds: u64) -> u64 {
-    let mut set = BitSet::new();
-    let mut state = seed;
-    let mut sum = 0u64;
-    for _ in 0..rounds {
-        state = fill(&mut set, state, tries);
-        sum = sum.wrapping_add(drained(&mut set));
-    }
-    sum
+    repeated(seed, tries, rounds, |set, _| drained(set))
 }
 
 /// Fills a set, and counts and removes its members range by range, `rounds` times.
 #[unsafe(no_mangle)]
 pub extern "C" fn bitset_sweep(seed: u64, tries: u64, rounds: u64) -> u64 {
-    let mut set = BitSet::new();
-    let mut state = seed;
-    let mut sum = 0u64;
-    for _ in 0..rounds {
-        state = fill(&mut set, state, tries);
-        sum = sum.wrapping_add(swept(&mut set, number(state)));
-    }
-    sum
+    repeated(seed, tries, rounds, |set, state| swept(set, number(state)))
 }
 
 /// Fills a set, asks it for 1,000 numbers, and clears it, `rounds` times.
 #[unsafe(no_mangle)]
 pub extern "C" fn bitset_ask(seed: u64, tries: u64, rounds: u64) -> u64 {
-    let mut set = BitSet::new();
-    let mut state = seed;
-    let mut sum = 0u64;
-    for _ in 0..rounds {
-        state = fill(&mut set, state, tries);
-        sum = sum.wrapping_add(hits(&set, state, 1000));
+    repeated(seed, tries, rounds, |set, state| {
+        let found = hits(set, state, 1000);
         set.clear();
-    }
-    sum
+        found
+    })
 }
