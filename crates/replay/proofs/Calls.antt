@@ -1,14 +1,33 @@
 -- The loop over the calls: what holds after k of them, one call more, and the end.
-use Rattle.std.proofs.Common.{◌≡◌, ℕ, suc, ◌+◌, ◌-◌, ◌*◌, ◌/◌, ◌<◌, ◌≤◌, true, false, List, [], ◌∷◌, ◌++◌, length, get_or, take, drop, set, Some, None, Option, sym, refl, ap, ◌∙◌, subst, ⊎_elim, arith, length-drop, length-set, take-append-drop}
+use Rattle.std.proofs.Common.{◌≡◌, ℕ, zero, suc, ◌+◌, ◌-◌, ◌*◌, ◌/◌, ◌<◌, ◌≤◌, List, [], ◌∷◌, ◌++◌, length, get_or, take, drop, set, Some, None, Option, sym, refl, ap, ◌∙◌, ⊎_elim, arith, length-drop, length-set, take-append-drop}
 use lib.Seq.{take-nil}
+use Rattle.std.specs.Simd.{first_chunks}
 use Rattle.layout.specs.Shape.{Shape}
 use Rattle.life.specs.Serving.{after, answers, served}
 use Rattle.life.specs.declared.calls.Call.{Call}
 use Rattle.memory.specs.State.{State}
-use Rattle.std.proofs.lemmas.List.{append_assoc, append-nil, drop-drop, drop_more, drop-set-lt, take_more_set}
-use Rattle.std.proofs.lemmas.Bool.{cases_lt, cond-true, cond-false, lt-ltb, le-ltb, true≢false}
+use Rattle.std.proofs.lemmas.List.{append_assoc, append-nil, drop-drop, get_or-take, get_or-drop, drop_more, drop-set-lt, take_more_set}
+use Rattle.std.proofs.lemmas.Bool.{cases_lt, cond-true, cond-false, lt-ltb, le-ltb}
 use Rattle.replay.specs.Codes.{decoded, kind_of, value_of}
-use Rattle.replay.specs.Running.{all_served, answered, asked, call_at, calls_in, stepped, stepped_by, up_to, words_of}
+use Rattle.replay.specs.Running.{all_served, answered, asked, call_at, calls_in, up_to, words_of}
+
+-- the group of four words at k begins at the word 4 * k
+four_at : (n : ℕ) (ws : List ℕ) (k : ℕ) (d : List ℕ) → k < n → get_or (first_chunks 4 n ws) k d ≡ take 4 (drop (4 * k) ws)
+four_at zero ws k d h = absurd (omega arith)
+four_at (suc n) ws zero d h = refl
+four_at (suc n) ws (suc k) d h =
+    let next : 4 + 4 * k ≡ 4 * suc k = omega arith in
+    four_at n (drop 4 ws) k d (omega arith) ∙ ap (take 4) (drop-drop (4 * k) 4 ws ∙ ap (λ i. drop i ws) next)
+
+-- the call that it stands for is call k
+pub call_of_four : (ws : List ℕ) (k : ℕ) (four : List ℕ) → k < length ws / 4 → four ≡ get_or (first_chunks 4 (length ws / 4) ws) k four
+    → decoded (get_or four 0 0) (get_or four 1 0) (get_or four 2 0) (get_or four 3 0) ≡ call_at ws k
+call_of_four ws k four h is =
+    let here : four ≡ take 4 (drop (4 * k) ws) = is ∙ four_at (length ws / 4) ws k four h in
+    let word : (j i : ℕ) → j < 4 → 4 * k + j ≡ i → get_or four j 0 ≡ get_or ws i 0 =
+    λ j i l e. ap (λ xs. get_or xs j 0) here ∙ get_or-take 4 (drop (4 * k) ws) j 0 l ∙ get_or-drop (4 * k) ws j 0 ∙ ap (λ n. get_or ws n 0) e in
+    rw (word 0 (4 * k) (omega arith) (omega arith), word 1 (4 * k + 1) (omega arith) refl)
+    (rw (word 2 (4 * k + 2) (omega arith) refl, word 3 (4 * k + 3) (omega arith) refl) (sym (cond-true _ _ _ (lt-ltb k (length ws / 4) h))))
 
 -- fewer than four words are no call
 short : (ws : List ℕ) → length ws < 4 → calls_in ws ≡ []
@@ -58,12 +77,12 @@ left_some ws m k c h e =
     ap (λ i. take i (calls_in (drop (4 * k) ws))) n
     ∙ ap (λ l. take (suc (m - (k + 1))) l) (follow ws k ∙ ap (λ o. up_to o (calls_in (drop (4 * (k + 1)) ws))) e)
 
-left_none : (ws : List ℕ) (m k : ℕ) → call_at ws k ≡ None → left ws m k ≡ []
+pub left_none : (ws : List ℕ) (m k : ℕ) → call_at ws k ≡ None → left ws m k ≡ []
 left_none ws m k e =
     ap (λ l. take (m - k) l) (follow ws k ∙ ap (λ o. up_to o (calls_in (drop (4 * (k + 1)) ws))) e)
     ∙ take-nil (m - k)
 
-left_full : (ws : List ℕ) (m k : ℕ) → m ≤ k → left ws m k ≡ []
+pub left_full : (ws : List ℕ) (m k : ℕ) → m ≤ k → left ws m k ≡ []
 left_full ws m k h = let n : m - k ≡ 0 = omega arith in ap (λ i. take i (calls_in (drop (4 * k) ws))) n
 
 -- k of the calls are run: the rest leads where all of them lead
@@ -102,7 +121,7 @@ past : (os : List ℕ) (k x y : ℕ) → drop (2 * (k + 1)) (set (set os (2 * k)
 past os k x y =
     drop-set-lt (2 * (k + 1)) (set os (2 * k) x) (2 * k + 1) y (omega arith) ∙ drop-set-lt (2 * (k + 1)) os (2 * k) x (omega arith)
 
-one_more : (S : Shape) (s : State) (ws before : List ℕ) (k : ℕ) (os : List ℕ) (t : State) (c : Call)
+pub one_more : (S : Shape) (s : State) (ws before : List ℕ) (k : ℕ) (os : List ℕ) (t : State) (c : Call)
     → k < length before / 2 → call_at ws k ≡ Some c → Running S s ws before k os t
     → Running S s ws before (k + 1) (answered os k (served S t c).0) (served S t c).1
 one_more S s ws before k os t c h e run =
@@ -127,33 +146,8 @@ one_more S s ws before k os t c h e run =
       rest = past os k x y ∙ sym (ap (λ n. drop n os) two) ∙ sym (after' os) ∙ ap (drop 2) run.rest ∙ after' before ∙ ap (λ n. drop n before) two;
     }
 
-more_by : (S : Shape) (s : State) (ws before : List ℕ) (k : ℕ) (os : List ℕ) (t : State) (os' : List ℕ) (t' : State) (o : Option Call)
-    → k < length before / 2 → call_at ws k ≡ o → (true, os', t') ≡ stepped_by S os k t o → Running S s ws before k os t
-    → Running S s ws before (k + 1) os' t'
-more_by S s ws before k os t os' t' None h e q run = absurd (true≢false (ap (λ p. p.0) q))
-more_by S s ws before k os t os' t' (Some c) h e q run =
-    let said : os' ≡ answered os k (served S t c).0 = ap (λ p. p.1) q in
-    let went : t' ≡ (served S t c).1 = ap (λ p. p.2) q in
-    subst (λ l. Running S s ws before (k + 1) l t') (sym said)
-    (subst (λ u. Running S s ws before (k + 1) (answered os k (served S t c).0) u) (sym went) (one_more S s ws before k os t c h e run))
-
--- a call was run only where there was a place for its answer
-pub step_within : (S : Shape) (ws : List ℕ) (k : ℕ) (os : List ℕ) (t : State) (os' : List ℕ) (t' : State)
-    → (true, os', t') ≡ stepped S ws os k t → k < length os / 2
-step_within S ws k os t os' t' q =
-    ⊎_elim (λ h. h)
-    (λ h. absurd (true≢false (ap (λ p. p.0) (q ∙ cond-false _ _ _ (le-ltb k (length os / 2) h)))))
-    (cases_lt k (length os / 2))
-
-pub running_more : (S : Shape) (s : State) (ws before : List ℕ) (k : ℕ) (os : List ℕ) (t : State) (os' : List ℕ) (t' : State)
-    → (true, os', t') ≡ stepped S ws os k t → Running S s ws before k os t → Running S s ws before (k + 1) os' t'
-running_more S s ws before k os t os' t' q run =
-    let h = step_within S ws k os t os' t' q in
-    more_by S s ws before k os t os' t' (call_at ws k) (omega (arith, run.long)) refl
-    (q ∙ cond-true _ _ _ (lt-ltb k (length os / 2) h)) run
-
 -- with no call left, all are run
-all_run : (S : Shape) (s : State) (ws before : List ℕ) (k : ℕ) (os : List ℕ) (t : State)
+pub all_run : (S : Shape) (s : State) (ws before : List ℕ) (k : ℕ) (os : List ℕ) (t : State)
     → left ws (length before / 2) k ≡ [] → Running S s ws before k os t → (k, os, t) ≡ all_served S s (asked ws before) before
 all_run S s ws before k os t none run =
     let n : k ≡ length (asked ws before) = let z : length (left ws (length before / 2) k) ≡ 0 = ap length none in let q = run.count in omega arith in
@@ -164,20 +158,3 @@ all_run S s ws before k os t none run =
     ∙ ap (λ i. words_of (answers S s (asked ws before)) ++ drop (2 * i) before) n in
     let state : t ≡ after S s (asked ws before) = sym (ap (after S t) none) ∙ run.ends in
     λ i. (n i, words i, state i)
-
-end_by : (S : Shape) (s : State) (ws before : List ℕ) (k : ℕ) (os : List ℕ) (t : State) (os' : List ℕ) (t' : State) (o : Option Call)
-    → call_at ws k ≡ o → (false, os', t') ≡ stepped_by S os k t o → Running S s ws before k os t
-    → (k, os', t') ≡ all_served S s (asked ws before) before
-end_by S s ws before k os t os' t' (Some c) e q run = absurd (true≢false (sym (ap (λ p. p.0) q)))
-end_by S s ws before k os t os' t' None e q run =
-    ap (λ p. (k, p.1, p.2)) q ∙ all_run S s ws before k os t (left_none ws (length before / 2) k e) run
-
-pub running_all : (S : Shape) (s : State) (ws before : List ℕ) (k : ℕ) (os : List ℕ) (t : State) (os' : List ℕ) (t' : State)
-    → (false, os', t') ≡ stepped S ws os k t → Running S s ws before k os t → (k, os', t') ≡ all_served S s (asked ws before) before
-running_all S s ws before k os t os' t' q run =
-    ⊎_elim
-    (λ h. end_by S s ws before k os t os' t' (call_at ws k) refl (q ∙ cond-true _ _ _ (lt-ltb k (length os / 2) h)) run)
-    (λ h.
-    ap (λ p. (k, p.1, p.2)) (q ∙ cond-false _ _ _ (le-ltb k (length os / 2) h))
-    ∙ all_run S s ws before k os t (left_full ws (length before / 2) k (omega (arith, run.long))) run)
-    (cases_lt k (length os / 2))

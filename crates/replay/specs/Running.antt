@@ -1,9 +1,9 @@
 -- What is run of calls that are given as words, and what is left of it in the caller's lists.
-use Rattle.std.specs.Prelude.{ℕ, zero, suc, ◌+◌, ◌*◌, ◌/◌, Bool, true, false, cond, ◌||◌, List, [], ◌∷◌, ◌++◌, length, take, drop, Some, None, Option, Result, ◌==◌, nat_lt, slice_index, slice_set}
+use Rattle.std.specs.Prelude.{ℕ, zero, suc, ◌+◌, ◌*◌, ◌/◌, Bool, cond, ◌||◌, List, [], ◌∷◌, ◌++◌, length, take, drop, Some, None, Option, Result, ◌==◌, nat_lt, slice_index, slice_set}
 use Rattle.layout.specs.Cabling.{cabling}
 use Rattle.layout.specs.Counted.{counted}
 use Rattle.layout.specs.Shape.{Shape}
-use Rattle.life.specs.Serving.{after, answers, served}
+use Rattle.life.specs.Serving.{after, answers}
 use Rattle.life.specs.declared.calls.Answer.{Answer}
 use Rattle.life.specs.declared.calls.Call.{Call}
 use Rattle.memory.specs.Objects.{making}
@@ -39,14 +39,6 @@ words_of (a ∷ more) = kind_of a ∷ value_of a ∷ words_of more
 -- the words of an answer, put in the places of answer k
 abbrev pub answered : List ℕ → ℕ → Result Answer Refusal → List ℕ
 answered os k a = slice_set (slice_set os (2 * k) (kind_of a)) (2 * k + 1) (value_of a)
-
--- call k, if there is one: whether it was run, the answers then, and the heap then
-abbrev pub stepped_by : Shape → List ℕ → ℕ → State → Option Call → Bool × List ℕ × State
-stepped_by S os k s None = (false, os, s)
-stepped_by S os k s (Some c) = (true, answered os k (served S s c).0, (served S s c).1)
-
-abbrev pub stepped : Shape → List ℕ → List ℕ → ℕ → State → Bool × List ℕ × State
-stepped S ws os k s = cond (nat_lt k (length os / 2)) (stepped_by S os k s (call_at ws k)) (false, os, s)
 
 -- the calls that are run: as many as there are whole answers
 abbrev pub asked : List ℕ → List ℕ → List Call

@@ -2,7 +2,6 @@
 #![tactic(auto)]
 
 mod codes;
-mod lent;
 mod running;
 mod watching;
 
@@ -28,6 +27,7 @@ pub extern "C" fn heap_replay(
     ensures run { (result, answers.new, fills.new) ≡ replayed layout calls.now words.old answers.old fills.old }
     ensures words { is_sign layout ≡ false → words.new ≡ words.old }
 {
+    // A layout is a type, so each exported function picks it from the sign by itself.
     match layout {
         1 => running::run::<Counted>(calls, words, answers, fills),
         2 => running::run::<Cabling>(calls, words, answers, fills),

@@ -1,4 +1,3 @@
-use Rattle.std.proofs.Common.{◌-◌, ◌/◌, length}
 use Rattle.heap.specs.View.{state_of}
 use Rattle.replay.proofs.Calls.{Running}
 use Rattle.replay.proofs.running.run_calls.Given as goal
@@ -7,6 +6,3 @@ abbrev pub invariant-loop-k : goal.invariant-loop-k
 invariant-loop-k g l =
     let see = state_of g.S.Store.words g.S.Store.spare in
     Running g.L.Layout.shape (see l.initial.heap) l.calls l.initial.answers l.k l.answers (see l.heap)
-
-abbrev pub decreases-loop-k : goal.decreases-loop-k
-decreases-loop-k g l = length l.answers / 2 - l.k
