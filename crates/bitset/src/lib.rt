@@ -125,6 +125,7 @@ impl<const W: usize> BitSet<W> {
         }
         words[low] = word::below(words[low], a);
         words[low + 1..high.min(W)].fill(0);
+        // By index, as in `insert`.
         if high < W {
             words[high] = word::from(words[high], b);
         }

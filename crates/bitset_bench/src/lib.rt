@@ -34,6 +34,7 @@ fn add(sum: u64, number: usize) -> u64 {
 fn drained(set: &mut BitSet<512>) -> u64 {
     let mut sum = 0;
     let mut from = 0;
+    // No iterator: the set loses each member as it is met.
     while let Some(k) = set.first(from) {
         set.remove(k);
         sum = add(sum, k);

@@ -18,6 +18,7 @@ use store::Store;
 fn edit<S: Store, L: Layout>(heap: &mut Heap<S, L>, edit: Edit) -> Result<Reply, Refusal>
     ensures { (result, state_of S.words S.spare heap.new) ≡ edited L.shape (state_of S.words S.spare heap.old) edit }
 {
+    // The same match as in the model, whose `new` may lack memory too: a trait for both would have nine calls for this one.
     match edit {
         Edit::New { root, header } => heap.new(root, header).map(|()| Reply::Granted),
         Edit::Set { i, position, k } => heap.set(i, position, k).map(|()| Reply::Granted),

@@ -21,6 +21,9 @@ fn add_regions<S: Store, L: Layout>(memory: &Memory<S, L>, sum: u32) -> u32 {
     })
 }
 
+// Each of the sums below is one fold over another thing that the memory tells; a function that takes the question as a closure
+// would be as long.
+
 /// Adds 1 for each dirty card and 0 for each clean one.
 fn add_dirty<S: Store, L: Layout>(memory: &Memory<S, L>, sum: u32) -> u32 {
     (0..16 * u32::from(memory.regions.count)).fold(sum, |sum, card| {

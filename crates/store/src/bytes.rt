@@ -49,6 +49,7 @@ impl Store for ByteStore {
     }
 
     fn write(&mut self, index: usize, word: u32) -> Result<(), Outside> {
+        // By place: the contract of `as_chunks_mut` leaves open what the bytes are after the write.
         if index >= self.len() {
             return Err(Outside);
         }
