@@ -2,7 +2,7 @@
 use marking::{Marked, Refined};
 use model::{Edit, Reply};
 
-/// A call.
+/// A call. It is data and no closure, since calls come in lists.
 #[derive(Clone, Copy)]
 pub enum Call {
     /// An edit of the model.

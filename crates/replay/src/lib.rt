@@ -10,6 +10,8 @@ ghost use Rattle.std.specs.Prelude.{◌≡◌, false};
 
 use layout::{Cabling, Counted};
 
+// The lists are parameters of their own, as the C interface has them.
+
 /// Makes a heap on `words` and runs calls on it, one after another.
 ///
 /// `layout` is the sign of the layout: 1 is counted and 2 cabling. Any other answers 0 and alters nothing. Each call has four
