@@ -1,0 +1,63 @@
+-- The words of an object by their positions, and the references among them.
+use Rattle.std.proofs.Common.{◌≡◌, ℕ, zero, suc, ◌+◌, ◌-◌, ◌<◌, ◌≤◌, Bool, true, false, cond, List, [], ◌∷◌, length, map, get_or, sym, refl, ap, ap₂, ◌∙◌, subst, inl, inr, arith}
+use Rattle.std.specs.List.{AllByRecursion as Each, range_with_len}
+use Rattle.std.proofs.lemmas.Bool.{cases_Bool, cases_eq, cond-true, cond-false}
+use Rattle.canonical.specs.Saving.{references, renumbered}
+use Rattle.canonical.proofs.Pairs.{Pairs}
+use Rattle.canonical.proofs.Pairs.Pairs.{none, pair}
+
+module _ (P : ℕ → Type 0) where
+  -- what holds of each value of a function holds of a list of its values
+  pub each_value : (f : ℕ → ℕ) → ((k : ℕ) → P (f k)) → (i n : ℕ) → Each P (map f (range_with_len i n))
+  each_value f h i zero = tt
+  each_value f h i (suc n) = (h i, each_value f h (i + 1) n)
+
+  -- and of each reference, of the list of references
+  pub each_reference : (is : ℕ → Bool) (word : ℕ → ℕ) → ((k : ℕ) → is k ≡ true → P (word k)) → (i n : ℕ) →
+      Each P (references is i (map word (range_with_len i n)))
+  each_reference is word h i zero = tt
+  each_reference is word h i (suc n) = elim (cases_Bool (is i)) [
+    | inl e ↦ subst (Each P) (sym (cond-true _ _ _ e)) (h i e, each_reference is word h (i + 1) n)
+    | inr e ↦ subst (Each P) (sym (cond-false _ _ _ e)) (each_reference is word h (i + 1) n)
+  ]
+
+  -- each reference stands in the list of references
+  pub reference_at : (is : ℕ → Bool) (word : ℕ → ℕ) (i n k : ℕ) → Each P (references is i (map word (range_with_len i n))) →
+      is k ≡ true → i ≤ k → k < i + n → P (word k)
+  reference_at is word i zero k a e l h = absurd (omega arith)
+  reference_at is word i (suc n) k a e l h = elim (cases_eq k i) [
+    | inl s ↦ (let t : is i ≡ true = ap is (sym s) ∙ e in subst (λ j. P (word j)) (sym s) (subst (Each P) (cond-true _ _ _ t) a).0)
+    | inr d ↦ reference_at is word (i + 1) n k (elim (cases_Bool (is i)) [
+      | inl t ↦ (subst (Each P) (cond-true _ _ _ t) a).1
+      | inr t ↦ subst (Each P) (cond-false _ _ _ t) a
+    ]) e (omega arith) (omega arith)
+  ]
+
+module _ {R : ℕ → ℕ → Type 0} where
+  -- values of two functions that match make lists that match
+  pub pairs_values : (p q : ℕ → ℕ) → ((k : ℕ) → R (p k) (q k)) → (i n : ℕ) → Pairs R (map p (range_with_len i n)) (map q (range_with_len i n))
+  pairs_values p q h i zero = none
+  pairs_values p q h i (suc n) = pair (h i) (pairs_values p q h (i + 1) n)
+
+  -- and so do references that match
+  pub pairs_references : (is : ℕ → Bool) (p q : ℕ → ℕ) → ((k : ℕ) → is k ≡ true → R (p k) (q k)) → (i n : ℕ) →
+      Pairs R (references is i (map p (range_with_len i n))) (references is i (map q (range_with_len i n)))
+  pairs_references is p q h i zero = none
+  pairs_references is p q h i (suc n) = by (is i) (h i) (pairs_references is p q h (i + 1) n)
+    where
+      by : (t : Bool) → (t ≡ true → R (p i) (q i)) → {xs ys : List ℕ} → Pairs R xs ys → Pairs R (cond t (p i ∷ xs) xs) (cond t (q i ∷ ys) ys)
+      by true r ps = pair (r refl) ps
+      by false r ps = ps
+
+-- words are renumbered alike where their references have the same numbers and the others are the same
+pub renumbered_same : (is : ℕ → Bool) (f e p q : ℕ → ℕ) (i n : ℕ) → ((k : ℕ) → is k ≡ true → f (p k) ≡ e (q k)) →
+    ((k : ℕ) → i ≤ k → k < i + n → is k ≡ false → p k ≡ q k) →
+    renumbered is f i (map p (range_with_len i n)) ≡ renumbered is e i (map q (range_with_len i n))
+renumbered_same is f e p q i zero h u = refl
+renumbered_same is f e p q i (suc n) h u =
+    ap₂ (λ x xs. x ∷ xs) (here (is i) (h i) (u i (omega arith) (omega arith)))
+    (renumbered_same is f e p q (i + 1) n h (λ k l b z. u k (omega arith) (omega arith) z))
+  where
+    here : (t : Bool) → (t ≡ true → f (p i) ≡ e (q i)) → (t ≡ false → p i ≡ q i) → cond t (f (p i)) (p i) ≡ cond t (e (q i)) (q i)
+    here true a b = a refl
+    here false a b = b refl

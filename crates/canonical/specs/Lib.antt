@@ -1,0 +1,4 @@
+pub mod Walk
+pub mod Saving
+pub mod Alike
+pub mod Reaching
