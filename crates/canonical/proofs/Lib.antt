@@ -5,3 +5,9 @@ pub mod Pairs
 pub mod Words
 pub mod Reached
 pub mod OneContent
+pub mod Upto
+pub mod Turns
+pub mod Roles
+pub mod InTurns
+pub mod Relations
+pub mod SavedAlike

@@ -2,6 +2,7 @@
 use Rattle.std.proofs.Common.{◌≡◌, ℕ, zero, suc, ◌+◌, ◌-◌, ◌<◌, ◌≤◌, Bool, true, false, cond, List, [], ◌∷◌, length, map, get_or, sym, refl, ap, ap₂, ◌∙◌, subst, inl, inr, arith}
 use Rattle.std.specs.List.{AllByRecursion as Each, range_with_len}
 use Rattle.std.proofs.lemmas.Bool.{cases_Bool, cases_eq, cond-true, cond-false}
+use Rattle.std.proofs.lemmas.List.FromFn.{get_or-map-range_with_len}
 use Rattle.canonical.specs.Saving.{references, renumbered}
 use Rattle.canonical.proofs.Pairs.{Pairs}
 use Rattle.canonical.proofs.Pairs.Pairs.{none, pair}
@@ -61,3 +62,45 @@ renumbered_same is f e p q i (suc n) h u =
     here : (t : Bool) → (t ≡ true → f (p i) ≡ e (q i)) → (t ≡ false → p i ≡ q i) → cond t (f (p i)) (p i) ≡ cond t (e (q i)) (q i)
     here true a b = a refl
     here false a b = b refl
+
+-- the word at a place of an object's words
+pub word_at_place : (word : ℕ → ℕ) (i n k : ℕ) → k < n → get_or (map word (range_with_len i n)) k 0 ≡ word (i + k)
+word_at_place word i n k l = get_or-map-range_with_len word i n k (i + k) 0 l refl
+
+pub renumbered_length : (is : ℕ → Bool) (f : ℕ → ℕ) (i : ℕ) (vs : List ℕ) → length (renumbered is f i vs) ≡ length vs
+renumbered_length is f i [] = refl
+renumbered_length is f i (v ∷ vs) = ap suc (renumbered_length is f (i + 1) vs)
+
+-- where a reference stands, its number stands after renumbering, and where a plain word stands, the word
+pub renumbered_at : (is : ℕ → Bool) (f : ℕ → ℕ) (i : ℕ) (vs : List ℕ) (k : ℕ) → k < length vs →
+    get_or (renumbered is f i vs) k 0 ≡ cond (is (i + k)) (f (get_or vs k 0)) (get_or vs k 0)
+renumbered_at is f i [] k l = absurd (omega arith)
+renumbered_at is f i (v ∷ vs) zero l = let e : i ≡ i + 0 = omega arith in ap (λ j. cond (is j) (f v) v) e
+renumbered_at is f i (v ∷ vs) (suc k) l =
+    let e : i + 1 + k ≡ i + suc k = omega arith in
+    renumbered_at is f (i + 1) vs k (omega arith) ∙ ap (λ j. cond (is j) (f (get_or vs k 0)) (get_or vs k 0)) e
+
+-- references that keep their values leave the words as they are
+pub renumbered_kept : (is : ℕ → Bool) (f : ℕ → ℕ) (i : ℕ) (vs : List ℕ) → Each (λ v. f v ≡ v) (references is i vs) → renumbered is f i vs ≡ vs
+renumbered_kept is f i [] a = refl
+renumbered_kept is f i (v ∷ vs) a = by (is i) (renumbered_kept is f (i + 1) vs) a
+  where
+    others : List ℕ
+    others = references is (i + 1) vs
+
+    by : (t : Bool) → (Each (λ v. f v ≡ v) others → renumbered is f (i + 1) vs ≡ vs) → Each (λ v. f v ≡ v) (cond t (v ∷ others) others) →
+        cond t (f v) v ∷ renumbered is f (i + 1) vs ≡ v ∷ vs
+    by true ih b = ap₂ (λ x xs. x ∷ xs) b.0 (ih b.1)
+    by false ih b = ap (λ xs. v ∷ xs) (ih b)
+
+-- where every position holds a reference
+abbrev pub always : ℕ → Bool
+always i = true
+
+pub always_references : (i : ℕ) (vs : List ℕ) → references always i vs ≡ vs
+always_references i [] = refl
+always_references i (v ∷ vs) = ap (λ xs. v ∷ xs) (always_references (i + 1) vs)
+
+pub always_renumbered : (f : ℕ → ℕ) (i : ℕ) (vs : List ℕ) → renumbered always f i vs ≡ map f vs
+always_renumbered f i [] = refl
+always_renumbered f i (v ∷ vs) = ap (λ xs. f v ∷ xs) (always_renumbered f (i + 1) vs)

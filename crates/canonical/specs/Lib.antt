@@ -2,3 +2,4 @@ pub mod Walk
 pub mod Saving
 pub mod Alike
 pub mod Reaching
+pub mod Saved

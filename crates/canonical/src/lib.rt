@@ -4,6 +4,7 @@
 ghost use Rattle.layout.specs.Shape.{Shape, Lawful};
 ghost use Rattle.canonical.specs.Alike.{OneContent};
 ghost use Rattle.canonical.specs.Reaching.{EachReachedOnce};
+ghost use Rattle.canonical.specs.Saved.{SavedAlike};
 
 /// Alike graphs have one content.
 pub fn alike_graphs_have_one_content()
@@ -13,4 +14,9 @@ pub fn alike_graphs_have_one_content()
 /// A content has exactly the objects that the roots reach, each once.
 pub fn each_reached_object_is_saved_once()
     ensures { (S : Shape) → Lawful S → EachReachedOnce S }
+{}
+
+/// A content is well numbered, so that there is an image of it, and the graph of its objects is alike.
+pub fn a_content_is_well_numbered_and_alike()
+    ensures { (S : Shape) → Lawful S → SavedAlike S }
 {}

@@ -1,0 +1,14 @@
+-- What is saved of a graph, as a graph again.
+use Rattle.std.specs.Prelude.{ℕ, ◌^◌, ◌<◌}
+use Rattle.layout.specs.Shape.{Shape}
+use Rattle.image.specs.Numbering.{WellNumbered}
+use Rattle.model.specs.Graph.{Graph}
+use Rattle.model.specs.Edits.{graph_of}
+use Rattle.canonical.specs.Saving.{content_of, Whole}
+use Rattle.canonical.specs.Alike.{Alike}
+
+-- the content of a graph is well numbered, and is a graph that is alike
+abbrev pub SavedAlike : Shape → Type 0
+SavedAlike S =
+    (g : Graph) (n : ℕ) → Whole S g n → n < 2 ^ 32 →
+    WellNumbered S (content_of S g n) × Alike S g (graph_of (content_of S g n))
