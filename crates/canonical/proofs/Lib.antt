@@ -11,3 +11,4 @@ pub mod Roles
 pub mod InTurns
 pub mod Relations
 pub mod SavedAlike
+pub mod SavedAgain

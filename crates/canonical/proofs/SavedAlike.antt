@@ -23,7 +23,7 @@ abbrev pub Saved : List ℕ → ℕ → ℕ → Type 0
 Saved end a b = In end (suc a) × (place_of (suc a) end ≡ suc b)
 
 -- what a plain position is
-plain_parts : (S : Shape) (h i : ℕ) → plain S h i ≡ true → (1 ≤ i) × (i < S.size h) × (S.reference h i ≡ false)
+pub plain_parts : (S : Shape) (h i : ℕ) → plain S h i ≡ true → (1 ≤ i) × (i < S.size h) × (S.reference h i ≡ false)
 plain_parts S h i e =
     let p = and_parts _ _ e in
     let q = and_parts _ _ p.1 in

@@ -1,6 +1,7 @@
 -- What is saved of a graph, as a graph again.
-use Rattle.std.specs.Prelude.{ℕ, ◌^◌, ◌<◌}
+use Rattle.std.specs.Prelude.{◌≡◌, ℕ, ◌^◌, ◌<◌, length}
 use Rattle.layout.specs.Shape.{Shape}
+use Rattle.image.specs.Content.{Content}
 use Rattle.image.specs.Numbering.{WellNumbered}
 use Rattle.model.specs.Graph.{Graph}
 use Rattle.model.specs.Edits.{graph_of}
@@ -12,3 +13,9 @@ abbrev pub SavedAlike : Shape → Type 0
 SavedAlike S =
     (g : Graph) (n : ℕ) → Whole S g n → n < 2 ^ 32 →
     WellNumbered S (content_of S g n) × Alike S g (graph_of (content_of S g n))
+
+-- a well-numbered content, taken as a graph, is saved as it is
+abbrev pub SavedAgain : Shape → Type 0
+SavedAgain S =
+    (c : Content) → WellNumbered S c →
+    Whole S (graph_of c) (length c.objects) × (content_of S (graph_of c) (length c.objects) ≡ c)

@@ -4,7 +4,7 @@
 ghost use Rattle.layout.specs.Shape.{Shape, Lawful};
 ghost use Rattle.canonical.specs.Alike.{OneContent};
 ghost use Rattle.canonical.specs.Reaching.{EachReachedOnce};
-ghost use Rattle.canonical.specs.Saved.{SavedAlike};
+ghost use Rattle.canonical.specs.Saved.{SavedAgain, SavedAlike};
 
 /// Alike graphs have one content.
 pub fn alike_graphs_have_one_content()
@@ -19,4 +19,9 @@ pub fn each_reached_object_is_saved_once()
 /// A content is well numbered, so that there is an image of it, and the graph of its objects is alike.
 pub fn a_content_is_well_numbered_and_alike()
     ensures { (S : Shape) → Lawful S → SavedAlike S }
+{}
+
+/// A well-numbered content, taken as a graph, is saved as it is.
+pub fn a_well_numbered_content_is_saved_again()
+    ensures { (S : Shape) → Lawful S → SavedAgain S }
 {}
