@@ -12,3 +12,4 @@ pub mod InTurns
 pub mod Relations
 pub mod SavedAlike
 pub mod SavedAgain
+pub mod OneImage

@@ -9,14 +9,14 @@ use Rattle.model.specs.Graph.{Graph}
 use Rattle.model.specs.Edits.{object_at, graph_of}
 use Rattle.canonical.specs.Walk.{place_of}
 use Rattle.canonical.specs.Saving.{words_of, root_count, order, number, object_of, content_of, Whole}
-use Rattle.canonical.specs.Alike.{Match, Matching, Alike}
+use Rattle.canonical.specs.Alike.{Match, Matching, Alike, AlikeFromContent}
 use Rattle.canonical.specs.Saved.{SavedAlike}
 use Rattle.canonical.proofs.Places.{In, at_place}
 use Rattle.canonical.proofs.Roots.{count_past}
 use Rattle.canonical.proofs.Words.{word_at_place, renumbered_at}
 use Rattle.canonical.proofs.Reached.{nil_in, nil_number, root_in, field_in}
 use Rattle.canonical.proofs.InTurns.{nil_from_number, roots_length, saved_root, well_numbered}
-use Rattle.canonical.proofs.Relations.{matching_to}
+use Rattle.canonical.proofs.Relations.{Meet, matching_to, matching_meet}
 
 -- an object and the name of the object that is saved of it
 abbrev pub Saved : List ℕ → ℕ → ℕ → Type 0
@@ -109,3 +109,33 @@ module _ {S : Shape} (law : Lawful S) {g : Graph} {n : ℕ} (w : Whole S g n) wh
 
 pub content_alike : (S : Shape) → Lawful S → SavedAlike S
 content_alike S law g n w few = (well_numbered w few, saved_alike law w)
+
+pub alike_from_content : (S : Shape) → Lawful S → AlikeFromContent S
+alike_from_content S law g h n m wg wh e =
+    let here : Matching S g (graph_of (content_of S g n)) (Saved (order S g n)) = saved_matching law wg in
+    let there : Matching S h (graph_of (content_of S g n)) (Saved (order S h m)) =
+    subst (λ c. Matching S h (graph_of c) (Saved (order S h m))) (sym e) (saved_matching law wh) in
+    (test, matching_to (Meet (Saved (order S g n)) (Saved (order S h m))) (λ a b. test a b ≡ true) to from (matching_meet (Saved (order S g n)) (Saved (order S h m)) here there))
+  where
+    -- both are saved, with one number
+    test : ℕ → ℕ → Bool
+    test a b =
+        ltb (number S g n (suc a)) (length (order S g n))
+        && (ltb (number S h m (suc b)) (length (order S h m)) && eqb (number S g n (suc a)) (number S h m (suc b)))
+
+    to : (a b : ℕ) → Meet (Saved (order S g n)) (Saved (order S h m)) a b → test a b ≡ true
+    to a b p = and_from _ _ (lt-ltb _ _ p.1.0) (and_from _ _ (lt-ltb _ _ p.2.0) (eq-eqb _ _ (p.1.1 ∙ sym p.2.1)))
+
+    from : (a b : ℕ) → test a b ≡ true → Meet (Saved (order S g n)) (Saved (order S h m)) a b
+    from a b t =
+        let p = and_parts _ _ t in
+        let q = and_parts _ _ p.1 in
+        let i : In (order S g n) (suc a) = ltb-true _ _ p.0 in
+        let j : In (order S h m) (suc b) = ltb-true _ _ q.0 in
+        let same : number S g n (suc a) ≡ number S h m (suc b) = eqb-true _ _ q.1 in
+        by (number S g n (suc a)) refl i j same
+      where
+        by : (k : ℕ) → number S g n (suc a) ≡ k → In (order S g n) (suc a) → In (order S h m) (suc b) → number S g n (suc a) ≡ number S h m (suc b) →
+            Meet (Saved (order S g n)) (Saved (order S h m)) a b
+        by zero z i j same = absurd (omega (arith, nil_from_number wg (suc a) i z))
+        by (suc k) z i j same = (k, (i, z), (j, sym same ∙ z))

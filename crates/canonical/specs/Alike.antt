@@ -29,3 +29,7 @@ Alike S g h = (r : ℕ → ℕ → Bool) × Matching S g h (λ a b. r a b ≡ tr
 -- alike graphs have one content, whatever the names of their objects and the bounds on their values
 abbrev pub OneContent : Shape → Type 0
 OneContent S = (g h : Graph) (n m : ℕ) → Whole S g n → Whole S h m → Alike S g h → content_of S g n ≡ content_of S h m
+
+-- graphs of one content are alike
+abbrev pub AlikeFromContent : Shape → Type 0
+AlikeFromContent S = (g h : Graph) (n m : ℕ) → Whole S g n → Whole S h m → content_of S g n ≡ content_of S h m → Alike S g h

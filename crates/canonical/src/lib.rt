@@ -2,9 +2,9 @@
 #![tactic(auto)]
 
 ghost use Rattle.layout.specs.Shape.{Shape, Lawful};
-ghost use Rattle.canonical.specs.Alike.{OneContent};
+ghost use Rattle.canonical.specs.Alike.{AlikeFromContent, OneContent};
 ghost use Rattle.canonical.specs.Reaching.{EachReachedOnce};
-ghost use Rattle.canonical.specs.Saved.{SavedAgain, SavedAlike};
+ghost use Rattle.canonical.specs.Saved.{OneImage, SavedAgain, SavedAlike};
 
 /// Alike graphs have one content.
 pub fn alike_graphs_have_one_content()
@@ -24,4 +24,14 @@ pub fn a_content_is_well_numbered_and_alike()
 /// A well-numbered content, taken as a graph, is saved as it is.
 pub fn a_well_numbered_content_is_saved_again()
     ensures { (S : Shape) → Lawful S → SavedAgain S }
+{}
+
+/// Graphs of one content are alike.
+pub fn graphs_of_one_content_are_alike()
+    ensures { (S : Shape) → Lawful S → AlikeFromContent S }
+{}
+
+/// Two graphs have one image exactly if they are alike.
+pub fn graphs_have_one_image_if_alike()
+    ensures { (S : Shape) → Lawful S → OneImage S }
 {}
