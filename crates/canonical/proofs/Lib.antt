@@ -8,7 +8,7 @@ pub mod OneContent
 pub mod Upto
 pub mod Turns
 pub mod Roles
-pub mod InTurns
+pub mod Numbering
 pub mod Relations
 pub mod SavedAlike
 pub mod SavedAgain

@@ -1,26 +1,22 @@
--- Alike graphs have one content: matching values come first in both, refer to matching values, and so have the same numbers.
-use Rattle.std.proofs.Common.{◌≡◌, ℕ, zero, suc, ◌+◌, ◌-◌, ◌<◌, ◌≤◌, max, Bool, true, false, ◌↔◌, List, [], ◌∷◌, map, drop, length, sym, refl, ap, ap₂, ◌∙◌, subst, arith}
+-- Alike graphs have one content: the roots hold matching values, and matching values refer to matching values, so that these
+-- are met in the same order, and have the same numbers. A walk of as many steps in both reaches both ends.
+use Rattle.std.proofs.Common.{◌≡◌, ℕ, zero, suc, ◌-◌, ◌≤◌, max, ◌↔◌, List, map, refl, ap, ap₂, subst, arith}
 use Rattle.std.specs.List.{range_with_len}
-use Rattle.std.proofs.lemmas.Bool.{le-leb, lt-ltb, and_from, not_from_false}
-use Rattle.layout.specs.Shape.{Shape, plain}
+use Rattle.layout.specs.Shape.{Shape}
 use Rattle.image.specs.Content.{Content, Object}
-use Rattle.model.specs.Graph.{Graph, Reach}
-use Rattle.canonical.specs.Walk.{all_met, walked}
+use Rattle.model.specs.Graph.{Graph}
+use Rattle.canonical.specs.Walk.{walked}
 use Rattle.canonical.specs.Saving.{references, renumbered, words_of, referred, root_count, roots_of, order, number, object_of, content_of, Whole}
-use Rattle.canonical.specs.Alike.{Match, Matching, Alike, OneContent}
+use Rattle.canonical.specs.Alike.{Match, Matching, OneContent}
 use Rattle.canonical.proofs.Walking.{walked_same}
 use Rattle.canonical.proofs.Roots.{count_same}
 use Rattle.canonical.proofs.Reached.{first, good_walked, order_most}
 use Rattle.canonical.proofs.Pairs.{Pairs, pairs_behind, pairs_map, pairs_place, pairs_all_met, pairs_walked}
 use Rattle.canonical.proofs.Pairs.Pairs.{none, pair}
-use Rattle.canonical.proofs.Words.{pairs_values, pairs_references, renumbered_same}
+use Rattle.canonical.proofs.Words.{plain_from, pairs_values, pairs_references, renumbered_same}
 
 abbrev pub content : List ℕ → List Object → Content
 content rs os = record { roots = rs; objects = os }
-
--- a position after the header that holds no reference is plain
-pub plain_from : (S : Shape) (h i : ℕ) → 1 ≤ i → i < 1 + (S.size h - 1) → S.reference h i ≡ false → plain S h i ≡ true
-plain_from S h i l b e = and_from _ _ (le-leb 1 i l) (and_from _ _ (lt-ltb i (S.size h) (omega arith)) (not_from_false (S.reference h i) e))
 
 module _ {S : Shape} {g h : Graph} {R : ℕ → ℕ → Type 0} (m : Matching S g h R) where
   -- of values, too, none matches two

@@ -1,23 +1,22 @@
 -- Two graphs have one image exactly if they are alike: the bytes of an image tell its content, since each number in it tells
 -- where it ends, and how many numbers there are is written before them or said by a header.
-use Rattle.std.proofs.Common.{◌≡◌, ℕ, zero, suc, ◌+◌, ◌-◌, ◌^◌, ◌<◌, ◌≤◌, Bool, true, false, List, [], ◌∷◌, ◌++◌, drop, length, Ok, sym, refl, ap, ap₂, ◌∙◌, subst, append_assoc, arith}
+use Rattle.std.proofs.Common.{◌≡◌, ℕ, ◌+◌, ◌-◌, ◌^◌, ◌<◌, Bool, true, false, List, [], ◌∷◌, ◌++◌, drop, length, sym, refl, ap, ap₂, ◌∙◌, append_assoc, arith}
 use Rattle.std.specs.List.{AllByRecursion as Each}
 use Rattle.std.proofs.lemmas.List.{append_cancel_left}
 use Rattle.layout.specs.Shape.{Shape, Lawful}
 use Rattle.leb128.specs.declared.Number.{Number}
-use Rattle.leb128.specs.Number.{encode, read_at}
+use Rattle.leb128.specs.Number.{encode}
 use Rattle.leb128.proofs.Laws.{reads_back}
-use Rattle.image.specs.Content.{Content, Object, numbers, object_bytes, objects_bytes, written}
+use Rattle.image.specs.Content.{Content, Object, numbers, objects_bytes, written}
 use Rattle.image.specs.Numbering.{greatest_of, Ordered, WellNumbered}
 use Rattle.image.specs.Read.{root_role, body_role}
-use Rattle.model.specs.Graph.{Graph}
-use Rattle.canonical.specs.Saving.{content_of, Whole}
+use Rattle.canonical.specs.Saving.{content_of}
 use Rattle.canonical.specs.Saved.{OneImage}
 use Rattle.canonical.proofs.OneContent.{content, one_content}
 use Rattle.canonical.proofs.Words.{always}
-use Rattle.canonical.proofs.Turns.{Fits, after, InTurn}
+use Rattle.canonical.proofs.Turns.{MayStand, after, InTurn}
 use Rattle.canonical.proofs.Roles.{turn_from_body, turn_from_roots}
-use Rattle.canonical.proofs.InTurns.{well_numbered}
+use Rattle.canonical.proofs.Numbering.{well_numbered}
 use Rattle.canonical.proofs.SavedAlike.{alike_from_content}
 
 -- the number at the front, and what follows it
@@ -44,7 +43,7 @@ turn_small : (is : ℕ → Bool) (n i m : ℕ) (vs : List ℕ) → n < 2 ^ 32 �
 turn_small is n i m [] l a = tt
 turn_small is n i m (v ∷ vs) l a = (by (is i) a.0, turn_small is n (i + 1) (after (is i) m v) vs l a.1)
   where
-    by : (t : Bool) → Fits t n m v → v < 2 ^ 32
+    by : (t : Bool) → MayStand t n m v → v < 2 ^ 32
     by true b = omega (arith, b.0)
     by false b = b
 

@@ -1,7 +1,7 @@
 -- The values of a whole graph, in order: nil and what the roots reach, each once. What stands there is reached, since what is
 -- met is a root or a reference of what was met; what is reached stands there, since the walk goes through the whole list.
-use Rattle.std.proofs.Common.{◌≡◌, ℕ, zero, suc, ◌+◌, ◌-◌, ◌<◌, ◌≤◌, true, List, [], ◌∷◌, length, map, drop, get_or, sym, refl, ap, ◌∙◌, subst, inl, inr, arith, length-drop}
-use Rattle.std.specs.List.{AllByRecursion as Each, range_with_len}
+use Rattle.std.proofs.Common.{◌≡◌, ℕ, zero, suc, ◌-◌, ◌≤◌, true, List, [], ◌∷◌, length, drop, sym, refl, ap, ◌∙◌, subst, inl, inr, arith, length-drop}
+use Rattle.std.specs.List.{AllByRecursion as Each}
 use Rattle.std.proofs.lemmas.Bool.{cases_lt}
 use Rattle.std.proofs.lemmas.List.{length-map, get_or_default}
 use Rattle.std.proofs.lemmas.List.FromFn.{get_or-map-range_with_len}
@@ -9,14 +9,14 @@ use Rattle.layout.specs.Shape.{Shape, Lawful}
 use Rattle.model.specs.Graph.{Graph, Reach}
 use Rattle.model.specs.Graph.Reach.{by_root, by_field}
 use Rattle.canonical.specs.Walk.{place_of, met, all_met, walked}
-use Rattle.canonical.specs.Saving.{references, words_of, referred, root_count, roots_of, order, number, object_of, content_of, Whole}
+use Rattle.canonical.specs.Saving.{referred, root_count, roots_of, order, number, object_of, content_of, Whole}
 use Rattle.canonical.specs.Reaching.{EachReachedOnce}
 use Rattle.canonical.proofs.Places.{In, at_place, in_from_place, Begins, begins_more, all_met_begins, place-kept, at_kept, in_kept}
 use Rattle.canonical.proofs.Walking.{each_at, each_weaker, all_met_in, all_met_keeps, met_each, Single, nil_single, met_single, Distinct, nil_distinct, met_distinct, walked_begins, walked_closed, walked_keeps}
-use Rattle.canonical.proofs.Roots.{count_most, count_past}
+use Rattle.canonical.proofs.Roots.{count_past}
 use Rattle.canonical.proofs.Words.{each_value, each_reference, reference_at}
 
--- a value refers to nothing, or to what the roots reach
+-- a value is nil, or refers to what the roots reach
 abbrev pub Reached : Shape → Graph → ℕ → Type 0
 Reached S g zero = Unit {0}
 Reached S g (suc o) = Reach S g o
@@ -50,14 +50,15 @@ module _ (S : Shape) (g : Graph) (n : ℕ) (w : Whole S g n) where
   good_referred zero h = tt
   good_referred (suc o) h = each_reference Good (S.reference (g.head o)) (g.field o) (λ i e. good_field o i h.1 e) 1 (S.size (g.head o) - 1)
 
-  -- what the roots give, before the walk
+  -- the list before the walk: nil and what the roots hold
   abbrev pub first : List ℕ
   first = all_met (roots_of g) (0 ∷ [])
 
+  -- no value stands twice
   abbrev Once : List ℕ → Type 0
   Once ws = Single n ws × Distinct ws
 
-  -- after any number of steps
+  -- both hold after any number of steps
   pub good_walked : (f : ℕ) → Each Good (walked (referred S g) f 0 first) × Once (walked (referred S g) f 0 first)
   good_walked f =
       walked_keeps (referred S g) refl Good Once once good_nil good_referred f 0 first
@@ -97,21 +98,23 @@ module _ (S : Shape) (g : Graph) (n : ℕ) (w : Whole S g n) where
   pub roots_in : Each (In (order S g n)) (roots_of g)
   roots_in = each_weaker (in_kept first_begins) (roots_of g) (all_met_in (roots_of g) (0 ∷ []))
 
+  -- what a value in the order refers to stands there too
   pub referred_in : (v : ℕ) → In (order S g n) v → Each (In (order S g n)) (referred S g v)
   referred_in v h =
       subst (λ u. Each (In (order S g n)) (referred S g u)) (at_place v (order S g n) h)
       (walked_closed (referred S g) refl (suc n) 0 first (place_of v (order S g n)) (omega (arith, order_most)) (omega arith) h)
+
+  -- past the roots that are saved is nil
+  pub root_past : (k : ℕ) → root_count g ≤ k → g.root k ≡ 0
+  root_past k l = elim (cases_lt k 64) [ inl b ↦ count_past g k l b | inr b ↦ w.past k b ]
 
   pub root_in : (k : ℕ) → In (order S g n) (g.root k)
   root_in k = elim (cases_lt k (root_count g)) [
     | inl l ↦
         subst (In (order S g n)) (get_or-map-range_with_len g.root 0 (root_count g) k k 0 l (omega arith))
         (each_at (In (order S g n)) (roots_of g) k nil_in roots_in)
-    | inr l ↦ subst (In (order S g n)) (sym (nil l)) nil_in
+    | inr l ↦ subst (In (order S g n)) (sym (root_past k l)) nil_in
   ]
-    where
-      nil : root_count g ≤ k → g.root k ≡ 0
-      nil l = elim (cases_lt k 64) [ inl b ↦ count_past g k l b | inr b ↦ w.past k b ]
 
   pub field_in : Lawful S → (o i : ℕ) → In (order S g n) (suc o) → S.reference (g.head o) i ≡ true → In (order S g n) (g.field o i)
   field_in law o i h e =
@@ -121,9 +124,6 @@ module _ (S : Shape) (g : Graph) (n : ℕ) (w : Whole S g n) where
   pub reached_in : Lawful S → (o : ℕ) → Reach S g o → In (order S g n) (suc o)
   reached_in law o (by_root k e) = subst (In (order S g n)) e (root_in k)
   reached_in law o (by_field {o = p} i r s e) = subst (In (order S g n)) e (field_in law p i (reached_in law p r) s)
-
-  pub number_from_place : (k v : ℕ) → k < length (order S g n) → get_or (order S g n) k 0 ≡ v → number S g n v ≡ k
-  number_from_place k v l e = subst (λ u. number S g n u ≡ k) e (order_distinct k l)
 
   pub objects_count : suc (length (content_of S g n).objects) ≡ length (order S g n)
   objects_count = omega (arith, length-map (drop 1 (order S g n)) (object_of S g (number S g n)), length-drop 1 (order S g n), nil_in)

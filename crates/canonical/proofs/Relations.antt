@@ -1,5 +1,6 @@
--- Relations that match two graphs: one that says the same as another matches too, and what is matched with the same is matched.
-use Rattle.std.proofs.Common.{◌≡◌, ℕ, zero, suc, ◌↔◌, true, sym, refl, ap, ◌∙◌, subst}
+-- Relations that match graphs. One that says the same as a relation that matches two graphs matches them too. Where two graphs
+-- are matched with a third, they are matched by relating what is related with the same object of the third.
+use Rattle.std.proofs.Common.{◌≡◌, ℕ, zero, suc, true, sym, ◌∙◌, subst}
 use Rattle.layout.specs.Shape.{Shape, plain}
 use Rattle.model.specs.Graph.{Graph}
 use Rattle.canonical.specs.Alike.{Match, Matching}
@@ -41,7 +42,7 @@ matching_meet {S} {g} {h} {k} R Q m w = record {
   roots = λ i. match_meet R Q (g.root i) (k.root i) (h.root i) (m.roots i) (w.roots i);
   heads = head;
   references = λ a c i p e.
-  match_meet R Q (g.field a i) (k.field p.0 i) (h.field c i) (m.references a p.0 i p.1 e) (w.references c p.0 i p.2 (subst (λ x. S.reference x i ≡ true) (head a c p) e));
+      match_meet R Q (g.field a i) (k.field p.0 i) (h.field c i) (m.references a p.0 i p.1 e) (w.references c p.0 i p.2 (subst (λ x. S.reference x i ≡ true) (head a c p) e));
   plains = λ a c i p e. m.plains a p.0 i p.1 e ∙ sym (w.plains c p.0 i p.2 (subst (λ x. plain S x i ≡ true) (head a c p) e));
 }
   where

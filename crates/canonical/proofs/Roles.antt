@@ -1,6 +1,6 @@
 -- An image says by the role of a value whether it is a reference, a graph by its position. The two say the same: in an object the
 -- references stand at the reference positions of its header; among the roots all are references, and the last is not nil.
-use Rattle.std.proofs.Common.{◌≡◌, ℕ, zero, suc, ◌+◌, ◌-◌, ◌^◌, ◌<◌, ◌≤◌, max, Bool, true, false, cond, eqb, List, [], ◌∷◌, length, get_or, sym, refl, ap, ◌∙◌, subst, inl, inr, arith}
+use Rattle.std.proofs.Common.{◌≡◌, ℕ, zero, suc, ◌+◌, ◌-◌, ◌^◌, ◌<◌, max, Bool, true, false, cond, eqb, List, [], ◌∷◌, length, get_or, sym, refl, ap, ◌∙◌, subst, inl, inr, arith}
 use Rattle.std.proofs.lemmas.Bool.{cases_eq, eq-eqb, eqb-true}
 use Rattle.layout.specs.Shape.{Shape}
 use Rattle.image.specs.Content.{Object}
@@ -8,7 +8,7 @@ use Rattle.image.specs.Read.{root_role, body_role}
 use Rattle.image.specs.Numbering.{Admitted, greatest, greatest_of, Numbered, Ordered}
 use Rattle.model.specs.Edits.{object_at}
 use Rattle.canonical.proofs.Words.{always}
-use Rattle.canonical.proofs.Turns.{Fits, after, after_all, InTurn}
+use Rattle.canonical.proofs.Turns.{MayStand, after, after_all, InTurn}
 
 -- a layout in which every position, or none, holds a reference: it has the two roles of a body
 abbrev one_role : Bool → Shape
@@ -32,7 +32,7 @@ module _ (S : Shape) (h : ℕ) where
     turn_from_body n (i + 1) (after (S.reference h i) m v) vs (subst (λ x. Numbered (body_role S h) n (i + 1) x vs) (greatest_after (S.reference h i) m v) a.1),
   )
     where
-      by : (t : Bool) → Admitted (body_role (one_role t) 0 0) n m v → Fits t n m v
+      by : (t : Bool) → Admitted (body_role (one_role t) 0 0) n m v → MayStand t n m v
       by true b = b
       by false b = b
 
@@ -43,7 +43,7 @@ module _ (S : Shape) (h : ℕ) where
     subst (λ x. Numbered (body_role S h) n (i + 1) x vs) (sym (greatest_after (S.reference h i) m v)) (body_from_turn n (i + 1) (after (S.reference h i) m v) vs a.1),
   )
     where
-      by : (t : Bool) → Fits t n m v → Admitted (body_role (one_role t) 0 0) n m v
+      by : (t : Bool) → MayStand t n m v → Admitted (body_role (one_role t) 0 0) n m v
       by true b = b
       by false b = b
 
@@ -64,7 +64,7 @@ module _ (l : ℕ) where
     turn_from_roots n (i + 1) (max m v) vs (subst (λ x. Numbered (root_role l) n (i + 1) x vs) (greatest_root (eqb (i + 1) l) m v) a.1),
   )
     where
-      by : (t : Bool) → Admitted (cond t (root_role 1 0) (root_role 0 0)) n m v → Fits true n m v
+      by : (t : Bool) → Admitted (cond t (root_role 1 0) (root_role 0 0)) n m v → MayStand true n m v
       by true b = (b.0, b.1)
       by false b = b
 
@@ -85,10 +85,10 @@ module _ (l : ℕ) where
   roots_from_turn n i m (v ∷ vs) a e last = (
     by (eqb (i + 1) l) (eqb-true (i + 1) l) a.0,
     subst (λ x. Numbered (root_role l) n (i + 1) x vs) (sym (greatest_root (eqb (i + 1) l) m v))
-    (roots_from_turn n (i + 1) (max m v) vs a.1 (omega arith) (λ k s. last (suc k) (ap suc s))),
+        (roots_from_turn n (i + 1) (max m v) vs a.1 (omega arith) (λ k s. last (suc k) (ap suc s))),
   )
     where
-      by : (t : Bool) → (t ≡ true → i + 1 ≡ l) → Fits true n m v → Admitted (cond t (root_role 1 0) (root_role 0 0)) n m v
+      by : (t : Bool) → (t ≡ true → i + 1 ≡ l) → MayStand true n m v → Admitted (cond t (root_role 1 0) (root_role 0 0)) n m v
       by true f b = (b.0, b.1, pos)
         where
           pos : 0 < v

@@ -1,5 +1,6 @@
--- The roots that are saved: up to the last that is not nil.
-use Rattle.std.proofs.Common.{◌≡◌, ℕ, zero, suc, ◌<◌, ◌≤◌, eqb, refl, inl, inr, ap, ◌∙◌, sym, arith, cond}
+-- The roots that are saved are those up to the last that is not nil: past them is nil, the last is not nil, and these two facts
+-- tell how many they are. By induction on how many roots there are.
+use Rattle.std.proofs.Common.{◌≡◌, ℕ, zero, suc, ◌<◌, ◌≤◌, refl, inl, inr, ap, ◌∙◌, sym, arith}
 use Rattle.std.proofs.lemmas.Bool.{cases_eq, cond-true, cond-false, eq-eqb, ne_eqb}
 use Rattle.std.proofs.lemmas.Bool.Decides.{nat_tests}
 use Rattle.model.specs.Graph.{Graph}

@@ -1,12 +1,12 @@
--- A well-numbered content, taken as a graph, is saved as it is. Its values are first met as 0, 1, 2, .., so that each is its own
--- number.
-use Rattle.std.proofs.Common.{◌≡◌, ℕ, zero, suc, ◌+◌, ◌-◌, ◌^◌, ◌<◌, ◌≤◌, Bool, true, false, List, [], ◌∷◌, map, drop, length, get_or, sym, refl, ap, ap₂, ◌∙◌, subst, arith, length-drop}
+-- A well-numbered content, taken as a graph, is saved as it is. Where references are numbered as they are first met, the values
+-- met are 0, 1, 2, and so on, so that each is its own number, and renumbering leaves every word as it is.
+use Rattle.std.proofs.Common.{◌≡◌, ℕ, zero, suc, ◌+◌, ◌-◌, ◌<◌, ◌≤◌, Bool, true, false, List, [], ◌∷◌, map, drop, length, get_or, sym, refl, ap, ap₂, ◌∙◌, subst, arith, length-drop}
 use Rattle.std.specs.List.{AllByRecursion as Each, range_with_len}
 use Rattle.std.proofs.lemmas.List.{ext_get_or, get_or-map, get_or-drop, get_or_past, length-map}
 use Rattle.std.proofs.lemmas.List.FromFn.{fill_by_all, length-map-range_with_len}
-use Rattle.layout.specs.Shape.{Shape, Lawful, plain}
+use Rattle.layout.specs.Shape.{Shape, Lawful}
 use Rattle.image.specs.Content.{Content, Object}
-use Rattle.image.specs.Read.{root_role, body_role}
+use Rattle.image.specs.Read.{root_role}
 use Rattle.image.specs.Numbering.{greatest_of, Ordered, WellNumbered}
 use Rattle.model.specs.Graph.{Graph, Reach}
 use Rattle.model.specs.Graph.Reach.{by_root, by_field}
@@ -16,12 +16,11 @@ use Rattle.canonical.specs.Saving.{references, renumbered, words_of, referred, r
 use Rattle.canonical.specs.Saved.{SavedAgain}
 use Rattle.canonical.proofs.Walking.{each_at, each_weaker}
 use Rattle.canonical.proofs.Roots.{count_is}
-use Rattle.canonical.proofs.Words.{word_at_place, renumbered_kept, always, always_references, always_renumbered}
+use Rattle.canonical.proofs.Words.{plain_parts, word_at_place, renumbered_kept, always, always_references, always_renumbered}
 use Rattle.canonical.proofs.OneContent.{content}
 use Rattle.canonical.proofs.Upto.{upto, length-upto, place-upto, at_upto}
-use Rattle.canonical.proofs.Turns.{Held, after_all, InTurn, all_met_turn, after_least, after_most, turn_at, turn_most}
+use Rattle.canonical.proofs.Turns.{Stands, after_all, InTurn, all_met_turn, after_least, after_most, turn_at, turn_most}
 use Rattle.canonical.proofs.Roles.{body_after, turn_from_body, root_after, turn_from_roots, root_last, Sound, ordered_at}
-use Rattle.canonical.proofs.SavedAlike.{plain_parts}
 
 -- a list is that of what stands at its places, counted from 0 or from 1
 listed : (vs : List ℕ) → map (λ k. get_or vs k 0) (range_with_len 0 (length vs)) ≡ vs
@@ -137,11 +136,11 @@ module _ {S : Shape} (law : Lawful S) {c : Content} (w : WellNumbered S c) where
   content_again = ap₂ content roots_again objects_again
 
   -- what stands at a position of an object
-  held_at : (j i : ℕ) → j < n → 1 ≤ i → i < S.size (g.head j) → (t : Bool) → S.reference (g.head j) i ≡ t → Held t n (g.field j i)
+  held_at : (j i : ℕ) → j < n → 1 ≤ i → i < S.size (g.head j) → (t : Bool) → S.reference (g.head j) i ≡ t → Stands t n (g.field j i)
   held_at j i b p q t e =
       let s : Sound S n (object_at c.objects j) = object j b in
       let k : 1 + (i - 1) ≡ i = omega arith in
-      subst (λ x. Held x n (g.field j i)) (ap (S.reference (g.head j)) k ∙ e) (turn_at (S.reference (g.head j)) n 1 s.before (object_at c.objects j).body s.turn (i - 1) (omega (arith, s.long)))
+      subst (λ x. Stands x n (g.field j i)) (ap (S.reference (g.head j)) k ∙ e) (turn_at (S.reference (g.head j)) n 1 s.before (object_at c.objects j).body s.turn (i - 1) (omega (arith, s.long)))
 
   reference_held : (j i : ℕ) → j < n → S.reference (g.head j) i ≡ true → g.field j i ≤ n
   reference_held j i b e = let r = law.inside (g.head j) i e in held_at j i b r.0 r.1 true e

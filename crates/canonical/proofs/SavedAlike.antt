@@ -1,9 +1,10 @@
--- What is saved of a graph is alike: each object is matched with that of its number.
-use Rattle.std.proofs.Common.{◌≡◌, ℕ, zero, suc, ◌+◌, ◌-◌, ◌<◌, ◌≤◌, Bool, true, false, cond, ◌&&◌, eqb, ltb, List, map, drop, length, get_or, sym, refl, ap, ◌∙◌, subst, inl, inr, arith, length-drop}
-use Rattle.std.proofs.lemmas.Bool.{cases_lt, cond-true, cond-false, and_from, and_parts, lt-ltb, ltb-true, eq-eqb, eqb-true, leb-true, le-leb, not-true}
+-- What is saved of a graph is alike: each object is related with that of its number, whose words are the same but that each value
+-- is given by its number. Graphs of one content are alike, since both are alike to the graph of that content.
+use Rattle.std.proofs.Common.{◌≡◌, ℕ, zero, suc, ◌+◌, ◌-◌, ◌<◌, ◌≤◌, Bool, true, cond, ◌&&◌, eqb, ltb, List, drop, length, get_or, sym, refl, ap, ◌∙◌, subst, inl, inr, arith, length-drop}
+use Rattle.std.proofs.lemmas.Bool.{cases_lt, cond-true, cond-false, and_from, and_parts, lt-ltb, ltb-true, eq-eqb, eqb-true}
 use Rattle.std.proofs.lemmas.List.{get_or-map, get_or-drop, get_or_past}
 use Rattle.std.proofs.lemmas.List.FromFn.{length-map-range_with_len}
-use Rattle.layout.specs.Shape.{Shape, Lawful, plain}
+use Rattle.layout.specs.Shape.{Shape, Lawful}
 use Rattle.image.specs.Content.{Object}
 use Rattle.model.specs.Graph.{Graph}
 use Rattle.model.specs.Edits.{object_at, graph_of}
@@ -12,22 +13,14 @@ use Rattle.canonical.specs.Saving.{words_of, root_count, order, number, object_o
 use Rattle.canonical.specs.Alike.{Match, Matching, Alike, AlikeFromContent}
 use Rattle.canonical.specs.Saved.{SavedAlike}
 use Rattle.canonical.proofs.Places.{In, at_place}
-use Rattle.canonical.proofs.Roots.{count_past}
-use Rattle.canonical.proofs.Words.{word_at_place, renumbered_at}
-use Rattle.canonical.proofs.Reached.{nil_in, nil_number, root_in, field_in}
-use Rattle.canonical.proofs.InTurns.{nil_from_number, roots_length, saved_root, well_numbered}
+use Rattle.canonical.proofs.Words.{plain_parts, word_at_place, renumbered_at}
+use Rattle.canonical.proofs.Reached.{root_past, nil_number, root_in, field_in}
+use Rattle.canonical.proofs.Numbering.{nil_from_number, roots_length, saved_root, well_numbered}
 use Rattle.canonical.proofs.Relations.{Meet, matching_to, matching_meet}
 
 -- an object and the name of the object that is saved of it
 abbrev pub Saved : List ℕ → ℕ → ℕ → Type 0
 Saved end a b = In end (suc a) × (place_of (suc a) end ≡ suc b)
-
--- what a plain position is
-pub plain_parts : (S : Shape) (h i : ℕ) → plain S h i ≡ true → (1 ≤ i) × (i < S.size h) × (S.reference h i ≡ false)
-plain_parts S h i e =
-    let p = and_parts _ _ e in
-    let q = and_parts _ _ p.1 in
-    (leb-true 1 i p.0, ltb-true i (S.size h) q.0, not-true _ q.1)
 
 module _ {S : Shape} (law : Lawful S) {g : Graph} {n : ℕ} (w : Whole S g n) where
   abbrev end : List ℕ
@@ -52,11 +45,8 @@ module _ {S : Shape} (law : Lawful S) {g : Graph} {n : ℕ} (w : Whole S g n) wh
     | inl l ↦ subst (Match (Saved end) (g.root k)) (sym (saved_root w k l)) (match_number (g.root k) (root_in S g n w k))
     | inr l ↦
         subst (Match (Saved end) (g.root k)) (sym (get_or_past roots k 0 (omega (arith, roots_length w))))
-        (subst (λ v. Match (Saved end) v 0) (sym (nil l)) tt)
+        (subst (λ v. Match (Saved end) v 0) (sym (root_past S g n w k l)) tt)
   ]
-    where
-      nil : root_count g ≤ k → g.root k ≡ 0
-      nil l = elim (cases_lt k 64) [ inl b ↦ count_past g k l b | inr b ↦ w.past k b ]
 
   object_is : (a b : ℕ) → Saved end a b → object_at (content_of S g n).objects b ≡ saved (suc a)
   object_is a b (h, e) =
@@ -79,20 +69,20 @@ module _ {S : Shape} (law : Lawful S) {g : Graph} {n : ℕ} (w : Whole S g n) wh
     one = λ a b c d p q. (
       λ e. let f : number S g n (suc a) ≡ number S g n (suc c) = ap (λ x. number S g n (suc x)) e in omega (arith, p.1, q.1),
       λ e.
-      let f : number S g n (suc a) ≡ number S g n (suc c) = p.1 ∙ ap suc e ∙ sym q.1 in
-      let x : suc a ≡ suc c = sym (at_place (suc a) end p.0) ∙ ap (λ k. get_or end k 0) f ∙ at_place (suc c) end q.0 in
-      omega arith,
+          let f : number S g n (suc a) ≡ number S g n (suc c) = p.1 ∙ ap suc e ∙ sym q.1 in
+          let x : suc a ≡ suc c = sym (at_place (suc a) end p.0) ∙ ap (λ k. get_or end k 0) f ∙ at_place (suc c) end q.0 in
+          omega arith,
     );
     roots = match_root;
     heads = λ a b p. sym (ap (λ o. o.header) (object_is a b p));
     references = λ a b i p e.
-    let r = law.inside (g.head a) i e in
-    let is : get_or (object_at (content_of S g n).objects b).body (i - 1) 0 ≡ number S g n (g.field a i) =
-    ap (λ o. get_or o.body (i - 1) 0) (object_is a b p) ∙ word_is a i r.0 r.1 ∙ cond-true _ _ _ e in
-    subst (Match (Saved end) (g.field a i)) (sym is) (match_number (g.field a i) (field_in S g n w law a i p.0 e));
+        let r = law.inside (g.head a) i e in
+        let is : get_or (object_at (content_of S g n).objects b).body (i - 1) 0 ≡ number S g n (g.field a i) =
+        ap (λ o. get_or o.body (i - 1) 0) (object_is a b p) ∙ word_is a i r.0 r.1 ∙ cond-true _ _ _ e in
+        subst (Match (Saved end) (g.field a i)) (sym is) (match_number (g.field a i) (field_in S g n w law a i p.0 e));
     plains = λ a b i p e.
-    let r = plain_parts S (g.head a) i e in
-    sym (ap (λ o. get_or o.body (i - 1) 0) (object_is a b p) ∙ word_is a i r.0 r.1 ∙ cond-false _ _ _ r.2);
+        let r = plain_parts S (g.head a) i e in
+        sym (ap (λ o. get_or o.body (i - 1) 0) (object_is a b p) ∙ word_is a i r.0 r.1 ∙ cond-false _ _ _ r.2);
   }
 
   pub saved_alike : Alike S g (graph_of (content_of S g n))

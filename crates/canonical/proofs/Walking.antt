@@ -1,14 +1,15 @@
--- The list of values as it is walked. It only grows; a step past its end does nothing, so steps to spare do no harm; what the
--- values in it refer to comes to stand in it; and what holds of nil, of the first values and of all that such values refer to
--- holds of all. It has no value twice: its length and the number of values up to n that are missing make up n + 1.
+-- The list of values as it is walked. It only grows, and a step past its end changes nothing. What the values in it refer to
+-- comes to stand in it, and what holds of the first values and of all that such values refer to holds of all. It has no value
+-- twice: its length and the number of values up to n that do not stand in it make n + 1, so it ends.
 use Rattle.std.proofs.Common.{◌≡◌, ℕ, zero, suc, ◌+◌, ◌<◌, ◌≤◌, ◌≢◌, ◌⊎◌, cond, ltb, List, [], ◌∷◌, ◌++◌, length, get_or, sym, refl, ap, ◌∙◌, subst, inl, inr, arith}
 use Rattle.std.specs.List.{AllByRecursion as Each}
 use Rattle.std.proofs.lemmas.Bool.{cases_eq, cases_lt}
 use Rattle.std.proofs.lemmas.Bool.Decides.{nat_tests}
 use Rattle.std.proofs.lemmas.List.{get_or_past}
 use Rattle.canonical.specs.Walk.{place_of, met, all_met, walked}
-use Rattle.canonical.proofs.Places.{In, place-end, met_cases, place-met, in_met, length-end, Begins, begins_itself, begins_more, met_begins, all_met_begins, at_kept, in_kept}
+use Rattle.canonical.proofs.Places.{In, place-end, met_cases, in_met, length-end, Begins, begins_itself, begins_more, all_met_begins, at_kept, in_kept}
 
+-- what holds of each value of a list, and of nil, holds of what is read at any place
 pub each_at : (P : ℕ → Type 0) (xs : List ℕ) (k : ℕ) → P 0 → Each P xs → P (get_or xs k 0)
 each_at P [] k z a = z
 each_at P (x ∷ xs) zero z a = a.0
@@ -27,7 +28,7 @@ pub all_met_in : (vs ws : List ℕ) → Each (In (all_met vs ws)) vs
 all_met_in [] ws = tt
 all_met_in (v ∷ vs) ws = (in_kept (all_met_begins vs (met v ws)) v (in_met v ws), all_met_in vs (met v ws))
 
--- what meeting a value that has P leaves true, meeting such values one after another leaves true
+-- what stays true when a value that has P is met stays true when such values are met one after another
 pub all_met_keeps : (P : ℕ → Type 0) (Q : List ℕ → Type 0) → ((v : ℕ) (ws : List ℕ) → P v → Q ws → Q (met v ws)) →
     (vs ws : List ℕ) → Each P vs → Q ws → Q (all_met vs ws)
 all_met_keeps P Q step [] ws p q = q
@@ -75,7 +76,7 @@ met_single n v ws h a = elim (met_cases v ws) [
   | inr u ↦ subst (Single n) (sym u.1) (omega (arith, missing-end (suc n) v ws (omega arith) u.0, length-end ws v))
 ]
 
--- each value that stands in the list stands first where it is read
+-- the value at a place does not stand at an earlier one
 abbrev pub Distinct : List ℕ → Type 0
 Distinct ws = (k : ℕ) → k < length ws → place_of (get_or ws k 0) ws ≡ k
 
@@ -137,7 +138,7 @@ module _ (to : ℕ → List ℕ) (nothing : to 0 ≡ []) where
     ]
   ]
 
-  -- and so does walking, where nil has P and what a value with P refers to has P
+  -- it stays true on a walk, where nil has P, and what a value that has P refers to has P
   pub walked_keeps : (P : ℕ → Type 0) (Q : List ℕ → Type 0) → ((v : ℕ) (ws : List ℕ) → P v → Q ws → Q (met v ws)) →
       P 0 → ((v : ℕ) → P v → Each P (to v)) → (f k : ℕ) (ws : List ℕ) → Each P ws → Q ws → Each P (walked to f k ws) × Q (walked to f k ws)
   walked_keeps P Q step nil keep zero k ws a q = (a, q)

@@ -1,11 +1,24 @@
--- The words of an object by their positions, and the references among them.
+-- The words of an object by their positions, and the references among them: what holds of each word at a reference position holds
+-- of each reference, and the other way round. All by induction on how many words there are.
 use Rattle.std.proofs.Common.{◌≡◌, ℕ, zero, suc, ◌+◌, ◌-◌, ◌<◌, ◌≤◌, Bool, true, false, cond, List, [], ◌∷◌, length, map, get_or, sym, refl, ap, ap₂, ◌∙◌, subst, inl, inr, arith}
 use Rattle.std.specs.List.{AllByRecursion as Each, range_with_len}
-use Rattle.std.proofs.lemmas.Bool.{cases_Bool, cases_eq, cond-true, cond-false}
+use Rattle.std.proofs.lemmas.Bool.{cases_Bool, cases_eq, cond-true, cond-false, le-leb, lt-ltb, leb-true, ltb-true, and_from, and_parts, not_from_false, not-true}
+use Rattle.layout.specs.Shape.{Shape, plain}
 use Rattle.std.proofs.lemmas.List.FromFn.{get_or-map-range_with_len}
 use Rattle.canonical.specs.Saving.{references, renumbered}
 use Rattle.canonical.proofs.Pairs.{Pairs}
 use Rattle.canonical.proofs.Pairs.Pairs.{none, pair}
+
+-- a position after the header that holds no reference is plain
+pub plain_from : (S : Shape) (h i : ℕ) → 1 ≤ i → i < 1 + (S.size h - 1) → S.reference h i ≡ false → plain S h i ≡ true
+plain_from S h i l b e = and_from _ _ (le-leb 1 i l) (and_from _ _ (lt-ltb i (S.size h) (omega arith)) (not_from_false (S.reference h i) e))
+
+-- what a plain position is
+pub plain_parts : (S : Shape) (h i : ℕ) → plain S h i ≡ true → (1 ≤ i) × (i < S.size h) × (S.reference h i ≡ false)
+plain_parts S h i e =
+    let p = and_parts _ _ e in
+    let q = and_parts _ _ p.1 in
+    (leb-true 1 i p.0, ltb-true i (S.size h) q.0, not-true _ q.1)
 
 module _ (P : ℕ → Type 0) where
   -- what holds of each value of a function holds of a list of its values

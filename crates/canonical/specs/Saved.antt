@@ -1,4 +1,4 @@
--- What is saved of a graph, as a graph again.
+-- What is saved of a graph, as an image can say it, and as a graph again.
 use Rattle.std.specs.Prelude.{◌≡◌, ℕ, ◌^◌, ◌<◌, ◌↔◌, length}
 use Rattle.layout.specs.Shape.{Shape}
 use Rattle.image.specs.Content.{Content, written}
@@ -8,7 +8,7 @@ use Rattle.model.specs.Edits.{graph_of}
 use Rattle.canonical.specs.Saving.{content_of, Whole}
 use Rattle.canonical.specs.Alike.{Alike}
 
--- the content of a graph is well numbered, and is a graph that is alike
+-- what is saved of a graph is well numbered, and taken as a graph it is alike
 abbrev pub SavedAlike : Shape → Type 0
 SavedAlike S =
     (g : Graph) (n : ℕ) → Whole S g n → n < 2 ^ 32 →

@@ -31,7 +31,7 @@ abbrev pub used : (ℕ → ℕ) → ℕ → ℕ
 used root zero = 0
 used root (suc n) = cond (root n == 0) (used root n) (suc n)
 
--- how many of the 64 roots are saved: one more than the number of the last that is not nil
+-- how many of the 64 roots are saved: one more than the number of the last that is not nil, or none
 unfoldable pub root_count : Graph → ℕ
 root_count g = used g.root 64
 
@@ -39,12 +39,12 @@ root_count g = used g.root 64
 abbrev pub roots_of : Graph → List ℕ
 roots_of g = map g.root (range_with_len 0 (root_count g))
 
--- nil and what the roots reach, as first met: from the roots, and then from object after object. There are n + 1 values up to
--- n, so that n + 1 steps suffice where no value is above n
+-- nil and what the roots reach, as first met: by the roots, and then by object after object. Values up to n are at most n + 1,
+-- so that as many steps reach the end
 abbrev pub order : Shape → Graph → ℕ → List ℕ
 order S g n = walked (referred S g) (suc n) 0 (all_met (roots_of g) (0 ∷ []))
 
--- the number of a value is its place there
+-- the number of a value is its place in the order
 abbrev pub number : Shape → Graph → ℕ → ℕ → ℕ
 number S g n v = place_of v (order S g n)
 
@@ -54,7 +54,7 @@ object_of S g f zero = record { header = 0; body = [] }
 object_of S g f (suc o) =
     record { header = g.head o; body = renumbered (S.reference (g.head o)) f 1 (words_of S g o) }
 
--- what is saved of a graph whose values are up to n
+-- what is saved of a graph that holds values up to n
 abbrev pub content_of : Shape → Graph → ℕ → Content
 content_of S g n =
     record {
@@ -62,13 +62,15 @@ content_of S g n =
       objects = map (object_of S g (number S g n)) (drop 1 (order S g n));
     }
 
--- What is asked of a graph that is saved. Of objects that no root reaches, nothing is asked.
+-- What is asked of a graph that is saved: it holds values up to n, and no more than an image can say. Of objects that no root
+-- reaches, nothing is asked.
 pub record Whole (S : Shape) (g : Graph) (n : ℕ) : Type 0 where
-  -- there are 64 roots, and values up to n
+  -- the roots hold values up to n, and past the 64 roots is nil
   pub roots : (k : ℕ) → g.root k ≤ n
   pub past : (k : ℕ) → 64 ≤ k → g.root k ≡ 0
+  -- so do the reference positions of objects
   pub references : (o i : ℕ) → Reach S g o → S.reference (g.head o) i ≡ true → g.field o i ≤ n
-  -- headers are legal, and they and plain words have 32 bits
+  -- their headers are legal, and these and the plain words have 32 bits
   pub legal : (o : ℕ) → Reach S g o → S.legal (g.head o) ≡ true
   pub heads : (o : ℕ) → Reach S g o → g.head o < 2 ^ 32
   pub plains : (o i : ℕ) → Reach S g o → plain S (g.head o) i ≡ true → g.field o i < 2 ^ 32

@@ -1,8 +1,8 @@
--- Values in the order in which they are first met. A value is a reference: nil is 0, and an object's name + 1 names it. The list
--- of values begins with nil, so that the number of a value is its place in the list.
+-- Values in the order in which they are first met. A value is 0 for nil, or refers to an object and is its name + 1. The list of
+-- the values met begins with nil, so that the number of a value is its place in the list.
 use Rattle.std.specs.Prelude.{ℕ, zero, suc, cond, List, [], ◌∷◌, ◌++◌, length, ◌==◌, nat_lt, slice_index}
 
--- the first place of a value in a list, or the length where it does not stand there
+-- the first place of a value in a list, or the length of the list where the value does not stand in it
 abbrev pub place_of : ℕ → List ℕ → ℕ
 place_of v [] = 0
 place_of v (w ∷ ws) = cond (v == w) 0 (suc (place_of v ws))
@@ -16,8 +16,8 @@ abbrev pub all_met : List ℕ → List ℕ → List ℕ
 all_met [] ws = ws
 all_met (v ∷ vs) ws = all_met vs (met v ws)
 
--- goes through the list from place k on and meets what each value there refers to; the list may grow meanwhile. Past its end
--- stands nil, which refers to nothing, so that more steps than places do no harm
+-- goes through the list from place k on, and meets what the value at each place refers to; the list may grow on the way. Past
+-- its end nil is read, which refers to nothing, so that steps to spare change nothing
 abbrev pub walked : (ℕ → List ℕ) → ℕ → ℕ → List ℕ → List ℕ
 walked referred zero k ws = ws
 walked referred (suc steps) k ws = walked referred steps (suc k) (all_met (referred (slice_index ws k)) ws)

@@ -1,5 +1,5 @@
 use Rattle.canonical.proofs.SavedAgain.{saved_again}
-use Rattle.canonical.proofs.a_well_numbered_content_is_saved_again.Goals as goal
+use Rattle.canonical.proofs.what_is_well_numbered_is_saved_again.Goals as goal
 
 pub returns : goal.returns
 returns c = saved_again

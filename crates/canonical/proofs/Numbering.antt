@@ -1,29 +1,25 @@
--- The content of a whole graph is well numbered. The list of values grows as values are met, so that a value that is met for the
--- first time gets the next number; and the walk takes object after object, so that each was met before it is its turn.
-use Rattle.std.proofs.Common.{◌≡◌, ℕ, zero, suc, ◌+◌, ◌-◌, ◌^◌, ◌<◌, ◌≤◌, max, Bool, true, false, cond, List, [], ◌∷◌, map, drop, length, get_or, sym, refl, ap, ◌∙◌, subst, inl, inr, arith, length-drop}
-use Rattle.std.specs.List.{AllByRecursion as Each, range_with_len}
+-- What is saved of a graph is well numbered. A value that is met for the first time is put at the end of the list, so that it gets
+-- the next number; and the walk takes the objects in the order of the list, so that each was met before its turn comes.
+use Rattle.std.proofs.Common.{◌≡◌, ℕ, zero, suc, ◌+◌, ◌-◌, ◌^◌, ◌<◌, ◌≤◌, max, Bool, true, false, cond, List, [], ◌∷◌, map, drop, length, get_or, sym, refl, ap, ◌∙◌, subst, inl, inr, arith}
 use Rattle.std.proofs.lemmas.Bool.{cases_lt}
-use Rattle.std.proofs.lemmas.Bool.Decides.{nat_tests}
 use Rattle.std.proofs.lemmas.List.{drop_all, get_or-map, length-map}
 use Rattle.std.proofs.lemmas.List.FromFn.{length-map-range_with_len}
 use Rattle.std.proofs.Math.Seq.{drop-cons}
-use Rattle.layout.specs.Shape.{Shape, Lawful}
+use Rattle.layout.specs.Shape.{Shape}
 use Rattle.image.specs.Content.{Object}
-use Rattle.image.specs.Read.{root_role, body_role}
-use Rattle.image.specs.Numbering.{greatest_of, Ordered, WellNumbered}
-use Rattle.model.specs.Graph.{Graph, Reach}
+use Rattle.image.specs.Numbering.{Ordered, WellNumbered}
+use Rattle.model.specs.Graph.{Graph}
 use Rattle.canonical.specs.Walk.{place_of, met, all_met, walked}
 use Rattle.canonical.specs.Saving.{references, renumbered, words_of, referred, root_count, roots_of, order, number, object_of, content_of, Whole}
 use Rattle.canonical.proofs.Places.{In, place-at-most, at_place, met_cases, place-met, in_met, length-end, Begins, begins_more, all_met_begins, place-kept, at_kept, longer, in_kept}
 use Rattle.canonical.proofs.Walking.{each_at, walked_begins, walked_past}
 use Rattle.canonical.proofs.Roots.{count_most, count_last}
-use Rattle.canonical.proofs.Words.{word_at_place, renumbered_length, always, always_references, always_renumbered}
+use Rattle.canonical.proofs.Words.{plain_from, word_at_place, renumbered_length, always, always_references, always_renumbered}
 use Rattle.canonical.proofs.Reached.{Good, good_nil, first, order_good, order_distinct, order_most, first_begins, nil_in, nil_number, root_in, objects_count}
-use Rattle.canonical.proofs.OneContent.{plain_from}
-use Rattle.canonical.proofs.Turns.{Fits, after, after_all, InTurn}
+use Rattle.canonical.proofs.Turns.{MayStand, after, after_all, InTurn}
 use Rattle.canonical.proofs.Roles.{body_after, body_from_turn, root_after, roots_from_turn}
 
--- words by their final numbers are in turn, and the list has them up to the greatest
+-- words are numbered in turn by the list at its end, and the list before it ends has the values up to the greatest of them
 module _ (is : ℕ → Bool) (end : List ℕ) (n : ℕ) (long : length end ≡ suc n) where
   abbrev turned : ℕ → List ℕ → List ℕ
   turned i vs = renumbered is (λ v. place_of v end) i vs
@@ -41,7 +37,7 @@ module _ (is : ℕ → Bool) (end : List ℕ) (n : ℕ) (long : length end ≡ s
       by : (t : Bool) → Begins (all_met (cond t (v ∷ others) others) ws) end → (t ≡ false → v < 2 ^ 32) →
           ((m′ : ℕ) (ws′ : List ℕ) → length ws′ ≡ suc m′ → Begins (all_met others ws′) end →
           InTurn is n (i + 1) m′ (turned (i + 1) vs) × (length (all_met others ws′) ≡ suc (after_all is (i + 1) m′ (turned (i + 1) vs)))) →
-          (Fits t n m (cond t (place_of v end) v) × InTurn is n (i + 1) (after t m (cond t (place_of v end) v)) (turned (i + 1) vs))
+          (MayStand t n m (cond t (place_of v end) v) × InTurn is n (i + 1) (after t m (cond t (place_of v end) v)) (turned (i + 1) vs))
           × (length (all_met (cond t (v ∷ others) others) ws) ≡ suc (after_all is (i + 1) (after t m (cond t (place_of v end) v)) (turned (i + 1) vs)))
       by true c p ih =
           let d : Begins (met v ws) end = begins_more (all_met_begins others (met v ws)) c in
@@ -63,7 +59,7 @@ module _ {S : Shape} {g : Graph} {n : ℕ} (w : Whole S g n) where
   abbrev saved : ℕ → Object
   saved = object_of S g (number S g n)
 
-  -- what has no number but 0 is nil
+  -- only nil has the number 0
   pub nil_from_number : (v : ℕ) → In end v → number S g n v ≡ 0 → v ≡ 0
   nil_from_number v h e = sym (at_place v end h) ∙ ap (λ k. get_or end k 0) (e ∙ sym (nil_number S g n w)) ∙ at_place 0 end (nil_in S g n w)
 
@@ -88,6 +84,7 @@ module _ {S : Shape} {g : Graph} {n : ℕ} (w : Whole S g n) where
         subst (λ x. Ordered S count (k + 1) x os) (sym (body_after S h 1 m body)) (r (after_all (S.reference h) 1 m body) t.1),
       )
 
+  -- the objects from number k on, where the list has been walked up to there
   walk_ordered : (f k m : ℕ) (ws : List ℕ) → walked (referred S g) f k ws ≡ end → length end ≤ k + f → length ws ≡ suc m → 1 ≤ k →
       Ordered S count k m (map saved (drop k end))
   walk_ordered zero k m ws e h l p = rw (drop_all k end (omega arith)) tt
