@@ -28,6 +28,7 @@ number_front v u xs ys l b e =
     let same : v ≡ u = ap (λ (x : Number). x.value) read in
     (same, append_cancel_left (encode v) xs ys (e ∙ ap (λ k. encode k ++ ys) (sym same)))
 
+-- as many numbers at the front, and what follows them
 numbers_front : (vs us xs ys : List ℕ) → length vs ≡ length us → Each (λ v. v < 2 ^ 32) vs → Each (λ v. v < 2 ^ 32) us →
     numbers vs ++ xs ≡ numbers us ++ ys → (vs ≡ us) × (xs ≡ ys)
 numbers_front [] [] xs ys l a b e = (refl, e)
@@ -48,6 +49,7 @@ turn_small is n i m (v ∷ vs) l a = (by (is i) a.0, turn_small is n (i + 1) (af
     by false b = b
 
 module _ (S : Shape) where
+  -- as many objects: a header tells how many words follow it
   objects_front : (n k m l j i : ℕ) (os ps : List Object) → n < 2 ^ 32 → l < 2 ^ 32 → Ordered S n k m os → Ordered S l j i ps → length os ≡ length ps →
       objects_bytes os ≡ objects_bytes ps → os ≡ ps
   objects_front n k m l j i [] [] fn fl a b s e = refl

@@ -125,6 +125,7 @@ module _ (S : Shape) (g : Graph) (n : ℕ) (w : Whole S g n) where
   reached_in law o (by_root k e) = subst (In (order S g n)) e (root_in k)
   reached_in law o (by_field {o = p} i r s e) = subst (In (order S g n)) e (field_in law p i (reached_in law p r) s)
 
+  -- every value in the order but nil has an object
   pub objects_count : suc (length (content_of S g n).objects) ≡ length (order S g n)
   objects_count = omega (arith, length-map (drop 1 (order S g n)) (object_of S g (number S g n)), length-drop 1 (order S g n), nil_in)
 

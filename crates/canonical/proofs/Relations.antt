@@ -21,7 +21,7 @@ module _ (R Q : ℕ → ℕ → Type 0) (to : (a b : ℕ) → R a b → Q a b) w
     plains = λ a b i p e. m.plains a b i (from a b p) e;
   }
 
--- two names that are related with one
+-- two names are related where both are related with the same third
 abbrev pub Meet : (ℕ → ℕ → Type 0) → (ℕ → ℕ → Type 0) → ℕ → ℕ → Type 0
 Meet R Q a c = (b : ℕ) × R a b × Q c b
 

@@ -27,6 +27,7 @@ module _ (is : ℕ → Bool) where
   after_all i m [] = m
   after_all i m (v ∷ vs) = after_all (i + 1) (after (is i) m v) vs
 
+  -- each word may stand at its position
   abbrev pub InTurn : ℕ → ℕ → ℕ → List ℕ → Type 0
   InTurn n i m [] = Unit {0}
   InTurn n i m (v ∷ vs) = MayStand (is i) n m v × InTurn n (i + 1) (after (is i) m v) vs
@@ -59,6 +60,7 @@ module _ (is : ℕ → Bool) where
       by true b = omega (arith, b.0)
       by false b = h
 
+  -- what stands at a place of such words
   pub turn_at : (n i m : ℕ) (vs : List ℕ) → InTurn n i m vs → (k : ℕ) → k < length vs → Stands (is (i + k)) n (get_or vs k 0)
   turn_at n i m [] a k l = absurd (omega arith)
   turn_at n i m (v ∷ vs) a zero l = let e : i ≡ i + 0 = omega arith in subst (λ j. Stands (is j) n v) e (by (is i) a.0)
@@ -70,6 +72,7 @@ module _ (is : ℕ → Bool) where
       let e : i + 1 + k ≡ i + suc k = omega arith in
       subst (λ j. Stands (is j) n (get_or vs k 0)) e (turn_at n (i + 1) (after (is i) m v) vs a.1 k (omega arith))
 
+  -- no reference is above n
   pub turn_most : (n i m : ℕ) (vs : List ℕ) → InTurn n i m vs → Each (λ v. v ≤ n) (references is i vs)
   turn_most n i m [] a = tt
   turn_most n i m (v ∷ vs) a = by (is i) a.0 (turn_most n (i + 1) (after (is i) m v) vs a.1)

@@ -3,8 +3,8 @@
 use Rattle.std.proofs.Common.{◌≡◌, ℕ, zero, suc, ◌+◌, ◌-◌, ◌<◌, ◌≤◌, Bool, true, false, cond, List, [], ◌∷◌, length, map, get_or, sym, refl, ap, ap₂, ◌∙◌, subst, inl, inr, arith}
 use Rattle.std.specs.List.{AllByRecursion as Each, range_with_len}
 use Rattle.std.proofs.lemmas.Bool.{cases_Bool, cases_eq, cond-true, cond-false, le-leb, lt-ltb, leb-true, ltb-true, and_from, and_parts, not_from_false, not-true}
-use Rattle.layout.specs.Shape.{Shape, plain}
 use Rattle.std.proofs.lemmas.List.FromFn.{get_or-map-range_with_len}
+use Rattle.layout.specs.Shape.{Shape, plain}
 use Rattle.canonical.specs.Saving.{references, renumbered}
 use Rattle.canonical.proofs.Pairs.{Pairs}
 use Rattle.canonical.proofs.Pairs.Pairs.{none, pair}
@@ -26,7 +26,7 @@ module _ (P : ℕ → Type 0) where
   each_value f h i zero = tt
   each_value f h i (suc n) = (h i, each_value f h (i + 1) n)
 
-  -- and of each reference, of the list of references
+  -- what holds of each word at a reference position holds of the list of references
   pub each_reference : (is : ℕ → Bool) (word : ℕ → ℕ) → ((k : ℕ) → is k ≡ true → P (word k)) → (i n : ℕ) →
       Each P (references is i (map word (range_with_len i n)))
   each_reference is word h i zero = tt
@@ -35,7 +35,7 @@ module _ (P : ℕ → Type 0) where
     | inr e ↦ subst (Each P) (sym (cond-false _ _ _ e)) (each_reference is word h (i + 1) n)
   ]
 
-  -- each reference stands in the list of references
+  -- the word at a reference position stands in the list of references
   pub reference_at : (is : ℕ → Bool) (word : ℕ → ℕ) (i n k : ℕ) → Each P (references is i (map word (range_with_len i n))) →
       is k ≡ true → i ≤ k → k < i + n → P (word k)
   reference_at is word i zero k a e l h = absurd (omega arith)
