@@ -31,7 +31,7 @@ abbrev pub used : (ℕ → ℕ) → ℕ → ℕ
 used root zero = 0
 used root (suc n) = cond (root n == 0) (used root n) (suc n)
 
--- how many of the 64 roots are saved: one more than the number of the last that is not nil, or none
+-- how many of the 64 roots are saved: one more than the number of the last that is not nil, or 0 where all are nil
 unfoldable pub root_count : Graph → ℕ
 root_count g = used g.root 64
 
