@@ -61,20 +61,20 @@ module _ {S : Shape} {g : Graph} {n : ℕ} (w : Whole S g n) where
 
   -- only nil has the number 0
   pub nil_from_number : (v : ℕ) → In end v → number S g n v ≡ 0 → v ≡ 0
-  nil_from_number v h e = sym (at_place v end h) ∙ ap (λ k. get_or end k 0) (e ∙ sym (nil_number S g n w)) ∙ at_place 0 end (nil_in S g n w)
+  nil_from_number v h e = sym (at_place v end h) ∙ ap (λ k. get_or end k 0) (e ∙ sym (nil_number S g n w.within)) ∙ at_place 0 end (nil_in S g n w.within)
 
   object_ordered : (k m v : ℕ) (ws : List ℕ) (os : List Object) → length ws ≡ suc m → 1 ≤ k → k < length ws → k < length end → get_or end k 0 ≡ v →
       Begins (all_met (referred S g v) ws) end → ((m′ : ℕ) → length (all_met (referred S g v) ws) ≡ suc m′ → Ordered S count (k + 1) m′ os) →
       Ordered S count k m (saved v ∷ os)
-  object_ordered k m zero ws os l p q b e x r = absurd (omega (arith, order_distinct S g n w k b, nil_number S g n w, ap (number S g n) e))
+  object_ordered k m zero ws os l p q b e x r = absurd (omega (arith, order_distinct S g n w.within k b, nil_number S g n w.within, ap (number S g n) e))
   object_ordered k m (suc o) ws os l p q b e x r =
       let h : ℕ = g.head o in
-      let good : Good S g n w (suc o) = subst (Good S g n w) e (each_at (Good S g n w) end k (good_nil S g n w) (order_good S g n w)) in
+      let good : Good S g n w.within (suc o) = subst (Good S g n w.within) e (each_at (Good S g n w.within) end k (good_nil S g n w.within) (order_good S g n w.within)) in
       let plain : (i : ℕ) → i < length (words_of S g o) → S.reference h (1 + i) ≡ false → get_or (words_of S g o) i 0 < 2 ^ 32 =
       λ i u f.
       let l : i < S.size h - 1 = omega (arith, length-map-range_with_len (g.field o) 1 (S.size h - 1)) in
       subst (λ x. x < 2 ^ 32) (sym (word_at_place (g.field o) 1 (S.size h - 1) i l)) (w.plains o (1 + i) good.1 (plain_from S h (1 + i) (omega arith) (omega arith) f)) in
-      let t = met_turn (S.reference h) end count (sym (objects_count S g n w)) 1 m (words_of S g o) ws l x plain in
+      let t = met_turn (S.reference h) end count (sym (objects_count S g n w.within)) 1 m (words_of S g o) ws l x plain in
       let body : List ℕ = (saved (suc o)).body in (
         omega arith,
         w.heads o good.1,
@@ -105,8 +105,8 @@ module _ {S : Shape} {g : Graph} {n : ℕ} (w : Whole S g n) where
   ]
 
   -- nil refers to nothing, so the first step leaves the list as it was
-  behind_nil : walked (referred S g) n 1 (first S g n w) ≡ end
-  behind_nil = sym (ap (λ v. walked (referred S g) n 1 (all_met (referred S g v) (first S g n w))) (at_kept (all_met_begins (roots_of g) (0 ∷ [])) 0 (omega arith)))
+  behind_nil : walked (referred S g) n 1 (first S g n w.within) ≡ end
+  behind_nil = sym (ap (λ v. walked (referred S g) n 1 (all_met (referred S g v) (first S g n w.within))) (at_kept (all_met_begins (roots_of g) (0 ∷ [])) 0 (omega arith)))
 
   abbrev roots : List ℕ
   roots = map (number S g n) (roots_of g)
@@ -119,25 +119,25 @@ module _ {S : Shape} {g : Graph} {n : ℕ} (w : Whole S g n) where
       get_or-map (number S g n) (roots_of g) k 0 0 (omega (arith, length-map-range_with_len g.root 0 (root_count g)))
       ∙ ap (number S g n) (word_at_place g.root 0 (root_count g) k l ∙ ap g.root (let e : 0 + k ≡ k = omega arith in e))
 
-  roots_turn : InTurn always count 0 0 roots × (length (first S g n w) ≡ suc (after_all always 0 0 roots))
+  roots_turn : InTurn always count 0 0 roots × (length (first S g n w.within) ≡ suc (after_all always 0 0 roots))
   roots_turn =
       let same : renumbered always (number S g n) 0 (roots_of g) ≡ roots = always_renumbered (number S g n) 0 (roots_of g) in
       let all : references always 0 (roots_of g) ≡ roots_of g = always_references 0 (roots_of g) in
-      let t = met_turn always end count (sym (objects_count S g n w)) 0 0 (roots_of g) (0 ∷ []) refl
-      (subst (λ vs. Begins (all_met vs (0 ∷ [])) end) (sym all) (first_begins S g n w)) (λ k h e. cc) in
+      let t = met_turn always end count (sym (objects_count S g n w.within)) 0 0 (roots_of g) (0 ∷ []) refl
+      (subst (λ vs. Begins (all_met vs (0 ∷ [])) end) (sym all) (first_begins S g n w.within)) (λ k h e. cc) in
       (subst (InTurn always count 0 0) same t.0, ap (λ vs. length (all_met vs (0 ∷ []))) (sym all) ∙ t.1 ∙ ap (λ vs. suc (after_all always 0 0 vs)) same)
 
   pub well_numbered : n < 2 ^ 32 → WellNumbered S (content_of S g n)
   well_numbered few = record {
-    few_objects = omega (arith, objects_count S g n w, order_most S g n w);
+    few_objects = omega (arith, objects_count S g n w.within, order_most S g n w.within);
     few_roots = omega (arith, roots_length, count_most g);
     roots = roots_from_turn (length roots) count 0 0 roots roots_turn.0 (omega arith) last;
     objects =
         subst (λ m. Ordered S count 1 m (content_of S g n).objects) (sym (root_after (length roots) 0 0 roots))
-        (walk_ordered n 1 (after_all always 0 0 roots) (first S g n w) behind_nil (omega (arith, order_most S g n w)) roots_turn.1 (omega arith));
+        (walk_ordered n 1 (after_all always 0 0 roots) (first S g n w.within) behind_nil (omega (arith, order_most S g n w.within)) roots_turn.1 (omega arith));
   }
     where
       last : (k : ℕ) → length roots ≡ suc k → get_or roots k 0 ≡ 0 → ⊥
       last k e z =
           let c : root_count g ≡ suc k = sym roots_length ∙ e in
-          count_last g k c (nil_from_number (g.root k) (root_in S g n w k) (sym (saved_root k (omega arith)) ∙ z))
+          count_last g k c (nil_from_number (g.root k) (root_in S g n w.within k) (sym (saved_root k (omega arith)) ∙ z))

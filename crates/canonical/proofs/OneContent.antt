@@ -6,7 +6,7 @@ use Rattle.layout.specs.Shape.{Shape}
 use Rattle.image.specs.Content.{Content, Object}
 use Rattle.model.specs.Graph.{Graph}
 use Rattle.canonical.specs.Walk.{walked}
-use Rattle.canonical.specs.Saving.{references, renumbered, words_of, referred, root_count, roots_of, order, number, object_of, content_of, Whole}
+use Rattle.canonical.specs.Saving.{references, renumbered, words_of, referred, root_count, roots_of, order, number, object_of, content_of, Within}
 use Rattle.canonical.specs.Alike.{Match, Matching, OneContent}
 use Rattle.canonical.proofs.Walking.{walked_same}
 use Rattle.canonical.proofs.Roots.{count_same}
@@ -57,7 +57,7 @@ module _ {S : Shape} {g h : Graph} {R : ℕ → ℕ → Type 0} (m : Matching S 
   roots_pairs : Pairs (Match R) (roots_of g) (roots_of h)
   roots_pairs = subst (λ l. Pairs (Match R) (roots_of g) (map h.root (range_with_len 0 l))) same_count (pairs_values g.root h.root m.roots 0 (root_count g))
 
-  module _ (n l : ℕ) (wg : Whole S g n) (wh : Whole S h l) where
+  module _ (n l : ℕ) (wg : Within S g n) (wh : Within S h l) where
     -- a walk of more steps, as many for both, is the order
     abbrev steps : ℕ
     steps = suc (max n l)
@@ -68,7 +68,7 @@ module _ {S : Shape} {g h : Graph} {R : ℕ → ℕ → Type 0} (m : Matching S 
         (subst (Pairs (Match R) (walked (referred S g) steps 0 (first S g n wg))) (long h l wh (omega arith))
         (pairs_walked (Match R) tt match_one (referred S g) (referred S h) referred_pairs steps 0 (pairs_all_met (Match R) tt match_one roots_pairs (pair tt none))))
       where
-        long : (x : Graph) (k : ℕ) (w : Whole S x k) → k ≤ max n l → walked (referred S x) steps 0 (first S x k w) ≡ order S x k
+        long : (x : Graph) (k : ℕ) (w : Within S x k) → k ≤ max n l → walked (referred S x) steps 0 (first S x k w) ≡ order S x k
         long x k w b = walked_same (referred S x) refl steps (suc k) 0 (first S x k w) (omega (arith, (good_walked S x k w steps).1.0)) (omega (arith, order_most S x k w))
 
     same_number : (a b : ℕ) → Match R a b → number S g n a ≡ number S h l b

@@ -21,5 +21,5 @@ content_from_written S law c d w x e =
 pub one_image : (S : Shape) → Lawful S → OneImage S
 one_image S law g h n m wg wh fn fm = (
   λ e. alike_from_content S law g h n m wg wh (content_from_written S law (content_of S g n) (content_of S h m) (well_numbered wg fn) (well_numbered wh fm) e),
-  λ a. ap (written S) (one_content S g h n m wg wh a),
+  λ a. ap (written S) (one_content S g h n m wg.within wh.within a),
 )

@@ -1,4 +1,4 @@
--- The values of a whole graph, in order: nil and what the roots reach, each once. What stands there is reached, since what is
+-- The values of a graph, in order: nil and what the roots reach, each once. What stands there is reached, since what is
 -- met is a root or a reference of what was met; what is reached stands there, since the walk goes through the whole list.
 use Rattle.std.proofs.Common.{◌≡◌, ℕ, zero, suc, ◌-◌, ◌≤◌, true, List, [], ◌∷◌, length, drop, sym, refl, ap, ◌∙◌, subst, inl, inr, arith, length-drop}
 use Rattle.std.specs.List.{AllByRecursion as Each}
@@ -9,7 +9,7 @@ use Rattle.layout.specs.Shape.{Shape, Lawful}
 use Rattle.model.specs.Graph.{Graph, Reach}
 use Rattle.model.specs.Graph.Reach.{by_root, by_field}
 use Rattle.canonical.specs.Walk.{place_of, met, all_met, walked}
-use Rattle.canonical.specs.Saving.{referred, root_count, roots_of, order, number, object_of, content_of, Whole}
+use Rattle.canonical.specs.Saving.{referred, root_count, roots_of, order, number, object_of, content_of, Within}
 use Rattle.canonical.specs.Reaching.{EachReachedOnce}
 use Rattle.canonical.proofs.Places.{In, at_place, in_from_place, Begins, begins_more, all_met_begins, place-kept, at_kept, in_kept}
 use Rattle.canonical.proofs.Walking.{each_at, each_weaker, all_met_in, all_met_keeps, met_each, Single, nil_single, met_single, Distinct, nil_distinct, met_distinct, walked_begins, walked_closed, walked_keeps}
@@ -21,7 +21,7 @@ abbrev pub Reached : Shape → Graph → ℕ → Type 0
 Reached S g zero = Unit {0}
 Reached S g (suc o) = Reach S g o
 
-module _ (S : Shape) (g : Graph) (n : ℕ) (w : Whole S g n) where
+module _ (S : Shape) (g : Graph) (n : ℕ) (w : Within S g n) where
   -- what holds of each value in the list
   abbrev pub Good : ℕ → Type 0
   Good v = (v ≤ n) × Reached S g v

@@ -154,9 +154,11 @@ module _ {S : Shape} (law : Lawful S) {c : Content} (w : WellNumbered S c) where
 
   whole : Whole S g n
   whole = record {
-    roots = roots_below;
-    past = λ k h. get_or_past c.roots k 0 (omega (arith, w.few_roots));
-    references = λ o i r e. reference_held o i (below o r) e;
+    within = record {
+      roots = roots_below;
+      past = λ k h. get_or_past c.roots k 0 (omega (arith, w.few_roots));
+      references = λ o i r e. reference_held o i (below o r) e;
+    };
     legal = λ o r. (object o (below o r)).legal;
     heads = λ o r. (object o (below o r)).wide;
     plains = λ o i r e. let p = plain_parts S (g.head o) i e in held_at o i (below o r) p.0 p.1 false p.2;

@@ -33,7 +33,7 @@ module _ {S : Shape} (law : Lawful S) {g : Graph} {n : ℕ} (w : Whole S g n) wh
   saved = object_of S g (number S g n)
 
   match_number : (v : ℕ) → In end v → Match (Saved end) v (number S g n v)
-  match_number zero h = rw (nil_number S g n w) tt
+  match_number zero h = rw (nil_number S g n w.within) tt
   match_number (suc a) h = by (number S g n (suc a)) refl
     where
       by : (k : ℕ) → number S g n (suc a) ≡ k → Match (Saved end) (suc a) k
@@ -42,10 +42,10 @@ module _ {S : Shape} (law : Lawful S) {g : Graph} {n : ℕ} (w : Whole S g n) wh
 
   match_root : (k : ℕ) → Match (Saved end) (g.root k) (get_or roots k 0)
   match_root k = elim (cases_lt k (root_count g)) [
-    | inl l ↦ subst (Match (Saved end) (g.root k)) (sym (saved_root w k l)) (match_number (g.root k) (root_in S g n w k))
+    | inl l ↦ subst (Match (Saved end) (g.root k)) (sym (saved_root w k l)) (match_number (g.root k) (root_in S g n w.within k))
     | inr l ↦
         subst (Match (Saved end) (g.root k)) (sym (get_or_past roots k 0 (omega (arith, roots_length w))))
-        (subst (λ v. Match (Saved end) v 0) (sym (root_past S g n w k l)) tt)
+        (subst (λ v. Match (Saved end) v 0) (sym (root_past S g n w.within k l)) tt)
   ]
 
   object_is : (a b : ℕ) → Saved end a b → object_at (content_of S g n).objects b ≡ saved (suc a)
@@ -79,7 +79,7 @@ module _ {S : Shape} (law : Lawful S) {g : Graph} {n : ℕ} (w : Whole S g n) wh
         let r = law.inside (g.head a) i e in
         let is : get_or (object_at (content_of S g n).objects b).body (i - 1) 0 ≡ number S g n (g.field a i) =
         ap (λ o. get_or o.body (i - 1) 0) (object_is a b p) ∙ word_is a i r.0 r.1 ∙ cond-true _ _ _ e in
-        subst (Match (Saved end) (g.field a i)) (sym is) (match_number (g.field a i) (field_in S g n w law a i p.0 e));
+        subst (Match (Saved end) (g.field a i)) (sym is) (match_number (g.field a i) (field_in S g n w.within law a i p.0 e));
     plains = λ a b i p e.
         let r = plain_parts S (g.head a) i e in
         sym (ap (λ o. get_or o.body (i - 1) 0) (object_is a b p) ∙ word_is a i r.0 r.1 ∙ cond-false _ _ _ r.2);

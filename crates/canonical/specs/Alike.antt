@@ -3,7 +3,7 @@
 use Rattle.std.specs.Prelude.{◌≡◌, ℕ, zero, suc, Bool, true, ◌↔◌}
 use Rattle.layout.specs.Shape.{Shape, plain}
 use Rattle.model.specs.Graph.{Graph}
-use Rattle.canonical.specs.Saving.{Whole, content_of}
+use Rattle.canonical.specs.Saving.{Within, Whole, content_of}
 
 -- two values match by R: both are nil, or R relates the objects that they refer to
 abbrev pub Match : (ℕ → ℕ → Type 0) → ℕ → ℕ → Type 0
@@ -29,7 +29,7 @@ Alike S g h = (r : ℕ → ℕ → Bool) × Matching S g h (λ a b. r a b ≡ tr
 
 -- alike graphs have one content, whatever the names of their objects and the bounds of their values
 abbrev pub OneContent : Shape → Type 0
-OneContent S = (g h : Graph) (n m : ℕ) → Whole S g n → Whole S h m → Alike S g h → content_of S g n ≡ content_of S h m
+OneContent S = (g h : Graph) (n m : ℕ) → Within S g n → Within S h m → Alike S g h → content_of S g n ≡ content_of S h m
 
 -- graphs of one content are alike
 abbrev pub AlikeFromContent : Shape → Type 0

@@ -2,7 +2,7 @@
 use Rattle.std.specs.Prelude.{◌≡◌, ℕ, suc, ◌<◌, ◌↔◌, length, Contains, slice_index}
 use Rattle.layout.specs.Shape.{Shape}
 use Rattle.model.specs.Graph.{Graph, Reach}
-use Rattle.canonical.specs.Saving.{order, content_of, Whole}
+use Rattle.canonical.specs.Saving.{order, content_of, Within}
 
 -- The objects that are saved, by the values in the order.
 pub record Reaching (S : Shape) (g : Graph) (n : ℕ) : Type 0 where
@@ -17,4 +17,4 @@ pub record Reaching (S : Shape) (g : Graph) (n : ℕ) : Type 0 where
 
 -- each object that the roots reach is saved once, and no other
 abbrev pub EachReachedOnce : Shape → Type 0
-EachReachedOnce S = (g : Graph) (n : ℕ) → Whole S g n → Reaching S g n
+EachReachedOnce S = (g : Graph) (n : ℕ) → Within S g n → Reaching S g n

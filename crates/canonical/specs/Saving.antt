@@ -62,15 +62,18 @@ content_of S g n =
       objects = map (object_of S g (number S g n)) (drop 1 (order S g n));
     }
 
--- What is asked of a graph that is saved: it holds values up to n, and no more than an image can say. Of objects that no root
--- reaches, nothing is asked.
-pub record Whole (S : Shape) (g : Graph) (n : ℕ) : Type 0 where
+-- A graph holds references up to n. Of objects that no root reaches, nothing is asked.
+pub record Within (S : Shape) (g : Graph) (n : ℕ) : Type 0 where
   -- the roots hold values up to n, and past the 64 roots is nil
   pub roots : (k : ℕ) → g.root k ≤ n
   pub past : (k : ℕ) → 64 ≤ k → g.root k ≡ 0
   -- so do the reference positions of objects
   pub references : (o i : ℕ) → Reach S g o → S.reference (g.head o) i ≡ true → g.field o i ≤ n
-  -- their headers are legal, and these and the plain words have 32 bits
+
+-- What is asked of a graph that is saved: it holds references up to n, and no more than an image can say.
+pub record Whole (S : Shape) (g : Graph) (n : ℕ) : Type 0 where
+  pub within : Within S g n
+  -- the headers of objects are legal, and these and the plain words have 32 bits
   pub legal : (o : ℕ) → Reach S g o → S.legal (g.head o) ≡ true
   pub heads : (o : ℕ) → Reach S g o → g.head o < 2 ^ 32
   pub plains : (o i : ℕ) → Reach S g o → plain S (g.head o) i ≡ true → g.field o i < 2 ^ 32
