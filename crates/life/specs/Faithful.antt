@@ -15,7 +15,7 @@ use Rattle.model.specs.Tied.{Tied}
 use Rattle.model.specs.declared.edits.Edit.{Edit}
 use Rattle.model.specs.declared.edits.Edit.TheVariants.{New, Set, Get, Put, Peek, Copy, Clear, Same, Head}
 use Rattle.model.specs.declared.edits.Refusal.{Refusal}
-use Rattle.model.specs.declared.edits.Refusal.TheVariants.{RootAbove63, IllegalHeader, RootNil, WrongPosition, NoSpace, AlreadyMarking, NotMarking, NotMarked}
+use Rattle.model.specs.declared.edits.Refusal.TheVariants.{RootAbove63, IllegalHeader, WorkListShort, OutputShort, RootNil, WrongPosition, NoSpace, AlreadyMarking, NotMarking, NotMarked}
 use Rattle.model.specs.declared.edits.Reply.{Reply}
 use Rattle.model.specs.declared.edits.Reply.TheVariants.{Granted, Word, Same as IsSame}
 use Rattle.life.specs.declared.calls.Call.{Call}
@@ -28,6 +28,8 @@ use Rattle.life.specs.Serving.{edited}
 abbrev pub is_no_space : Refusal → Bool
 is_no_space RootAbove63 = false
 is_no_space IllegalHeader = false
+is_no_space WorkListShort = false
+is_no_space OutputShort = false
 is_no_space RootNil = false
 is_no_space WrongPosition = false
 is_no_space NoSpace = true

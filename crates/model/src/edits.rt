@@ -9,6 +9,10 @@ pub enum Refusal {
     RootAbove63,
     /// The layout does not call the header legal.
     IllegalHeader,
+    /// The work list has fewer words than the image has objects.
+    WorkListShort,
+    /// The output has fewer bytes than the image.
+    OutputShort,
     /// The root whose object the call speaks of is nil.
     RootNil,
     /// The object has no position of the sort wanted there.
@@ -31,6 +35,8 @@ impl From<Refusal> for u32 {
         match refusal {
             Refusal::RootAbove63 => 1,
             Refusal::IllegalHeader => 2,
+            Refusal::WorkListShort => 5,
+            Refusal::OutputShort => 6,
             Refusal::RootNil => 31,
             Refusal::WrongPosition => 32,
             Refusal::NoSpace => 33,
