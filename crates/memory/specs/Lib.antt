@@ -1,3 +1,4 @@
 pub mod State
 pub mod Objects
 pub mod Edits
+pub mod Graph

@@ -11,7 +11,7 @@ use model::{Refusal, root_index};
 use store::Store;
 
 /// The reference of the object at a place, or nil.
-fn reference_to(root: Option<u32>) -> u32
+pub fn reference_to(root: Option<u32>) -> u32
     ensures { result ≡ reference_to root }
 {
     root.map_or(0, |place| place.saturating_add(1))

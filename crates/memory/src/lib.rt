@@ -9,5 +9,6 @@ mod memory;
 mod objects;
 mod phase;
 
+pub use edits::reference_to;
 pub use memory::Memory;
 pub use phase::Phase;
