@@ -25,3 +25,4 @@ pub mod ScanKeeps
 pub mod MarkKeeps
 pub mod Entering
 pub mod RefineKeeps
+pub mod Reaching

@@ -8,17 +8,12 @@ use Rattle.model.specs.Graph.{Graph}
 use Rattle.model.specs.declared.edits.Refusal.{Refusal}
 use Rattle.model.specs.declared.edits.Refusal.TheVariants.{NoSpace}
 use Rattle.memory.specs.Edits.{named_by, reference_to}
+use Rattle.memory.specs.Graph.{graph_in}
 use Rattle.tables.specs.Regions.{room, free_count}
 
 -- the objects of a heap, by their places
 abbrev pub graph_of : State → Graph
-graph_of s =
-    record {
-      node = s.starts;
-      head = λ p. word_in s p;
-      field = λ p i. word_in s (p + i);
-      root = λ k. reference_to (root_in s k);
-    }
+graph_of s = graph_in s
 
 -- no word outside the regions differs, nor what the store holds besides its words
 pub record Outside (s t : State) : Type 0 where

@@ -3,3 +3,4 @@ pub mod Sound
 pub mod Effects
 pub mod Steps
 pub mod View
+pub mod Images

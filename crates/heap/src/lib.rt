@@ -3,6 +3,7 @@
 
 mod edits;
 mod heap;
+mod images;
 mod steps;
 
 pub use heap::Heap;
