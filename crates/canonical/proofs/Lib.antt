@@ -13,3 +13,4 @@ pub mod Relations
 pub mod SavedAlike
 pub mod SavedAgain
 pub mod OneImage
+pub mod TiedAlike

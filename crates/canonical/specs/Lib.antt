@@ -3,3 +3,4 @@ pub mod Saving
 pub mod Alike
 pub mod Reaching
 pub mod Saved
+pub mod TiedAlike

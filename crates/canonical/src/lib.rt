@@ -8,6 +8,7 @@ ghost use Rattle.layout.specs.Shape.{Shape, Lawful};
 ghost use Rattle.canonical.specs.Alike.{AlikeFromContent, OneContent};
 ghost use Rattle.canonical.specs.Reaching.{EachReachedOnce};
 ghost use Rattle.canonical.specs.Saved.{OneImage, SavedAgain, SavedAlike};
+ghost use Rattle.canonical.specs.TiedAlike.{TiedAlike, TiedContent};
 
 /// Each object that the roots reach is saved once, and no other.
 pub fn each_reached_object_is_saved_once()
@@ -37,4 +38,14 @@ pub fn what_is_well_numbered_is_saved_again()
 /// Two graphs have one image exactly if they are alike.
 pub fn graphs_have_one_image_exactly_if_alike()
     ensures { (S : Shape) → Lawful S → OneImage S }
+{}
+
+/// A heap that is tied to the heap that never collects is alike.
+pub fn a_tied_heap_is_alike()
+    ensures { (S : Shape) → Lawful S → TiedAlike S }
+{}
+
+/// A heap that is tied to the heap that never collects has the same content.
+pub fn a_tied_heap_has_the_same_content()
+    ensures { (S : Shape) → Lawful S → TiedContent S }
 {}
