@@ -50,7 +50,7 @@ impl<const W: usize> BitSet<W> {
     pub fn remove(&mut self, i: usize)
         ensures { members self.new ≡ put (members self.old) i false }
     {
-        // By index: the contract of `get_mut` leaves open what the other words are after the write.
+        // As `insert`, with the other change of a word; one function for both would take the change as a closure and be longer.
         let w = i / 64;
         if w < W {
             self.words[w] = word::without(self.words[w], i);
@@ -72,7 +72,7 @@ impl<const W: usize> BitSet<W> {
         let words = &self.words[..W.min(MOST_WORDS)];
         let mut w = from / 64;
         let mut x = word::from(*words.get(w)?, from);
-        // A search by `position` takes a third longer where most words have members.
+        // A search by `position` takes a third longer where most words have members, above the 1.25 of docs/BENCHMARKS.md.
         while x == 0 {
             w += 1;
             x = *words.get(w)?;

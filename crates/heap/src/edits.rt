@@ -2,7 +2,7 @@
 //!
 //! The clause `step` of a contract is one equation: the answer and the state after the call. The other clauses rest on the
 //! heap being sound: the call does to its objects what its name says or is refused and alters nothing, and nothing outside
-//! the regions changes.
+//! the regions changes. That is said of each call by `outside`, since a type tells what a heap is and not what a call changes.
 ghost use Rattle.heap.specs.Effects.{Clears, Copies, Gets, Makes, Outside, Puts, Sets, Spaceless};
 ghost use Rattle.heap.specs.View.{state_of};
 ghost use Rattle.memory.specs.Edits.{clear_root, copy_root, get_reference, head_of, peek_word, put_word, same_roots, set_reference};

@@ -9,6 +9,7 @@ use store::Store;
 /// A heap of objects in the regions of a store.
 ///
 /// It comes from [`Heap::over`] and changes by its calls only. Every heap is sound: making gives it so, and each call keeps it.
+/// Contracts read it by `state_of`. It has no `impl Model`, whose value may hold no function, as the sets of a state are.
 #[derive(Drop)]
 pub struct Heap<S: Store, L: Layout> {
     pub(crate) memory: Memory<S, L>,

@@ -21,6 +21,7 @@ pub extern "C" fn topology_check(bytes: &[u8]) -> u64
     if bytes.len() > LONGEST {
         return TOO_LONG;
     }
+    // One number for all outcomes, as the C interface has it.
     match image::check::<Cabling>(bytes) {
         Ok(_) => 0,
         Err(refusal) => 256 * refusal.place as u64 + u64::from(u32::from(refusal.fault)),

@@ -16,6 +16,8 @@ fn fault_place(fault: leb128::Fault, bytes: &[u8], position: usize) -> usize
 }
 
 /// A reader over a borrowed image, with the position of the next byte.
+//
+// The position stands beside all bytes, and not what is left of them, since a fault is told by its byte place.
 #[derive(Drop)]
 pub struct Reader<'a> {
     bytes: &'a [u8],

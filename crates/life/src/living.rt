@@ -45,7 +45,7 @@ pub fn serve<S: Store, L: Layout>(heap: &mut Heap<S, L>, call: Call) -> Result<A
 }
 
 /// Makes a heap on a store and serves calls in order, as many as `answers` has places for. Each answer goes to the place of
-/// its call.
+/// its call. Both lists are the caller's, since a life takes no memory of its own.
 pub fn live<S: Store, L: Layout>(
     store: S,
     calls: &[Call],

@@ -190,6 +190,7 @@ impl<L: Layout> Model<L> {
     pub fn edit(&mut self, edit: Edit) -> Result<Result<Reply, Refusal>, AllocError>
         ensures { MatchResult result (λ reply. (reply, self.new) ≡ edited L.shape self.old edit) (λ _. (self.new ≡ self.old) × (makes L.shape edit ≡ true)) }
     {
+        // The same match as in a life: a trait for both heaps would have nine calls for it.
         Ok(match edit {
             Edit::New { root, header } => self.new(root, header)?.map(|()| Reply::Granted),
             Edit::Set { i, position, k } => self.set(i, position, k).map(|()| Reply::Granted),

@@ -20,7 +20,7 @@ const CABLE: u32 = 5;
 /// The header of a label, with the number 7 in its free bits.
 const LABEL: u32 = 6 + 256 * 7;
 
-/// How many calls there are.
+/// How many calls there are, and so how many answers there is an array for.
 pub const COUNT: usize = 62;
 
 /// The calls, in order.

@@ -38,6 +38,7 @@ fn run_calls<S: Store, L: Layout>(
     ensures { (result, answers.new, state_of S.words S.spare heap.new) ≡ all_served L.shape (state_of S.words S.spare heap.old) (asked calls.now answers.old) answers.old }
 {
     let places = answers.len() / 2;
+    // By number, since answers are stored by place.
     for k in 0..places {
         let Some(call) = call_at(calls, k) else {
             return k;

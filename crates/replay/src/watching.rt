@@ -3,7 +3,7 @@ use crate::running::call_at;
 use heap::Heap;
 use layout::Layout;
 use life::serve;
-use memory::Memory;
+use memory::{Memory, reference_to};
 use store::Store;
 
 /// A checksum, by 31 times what it was plus the next number.
@@ -54,9 +54,10 @@ fn add_marks<S: Store, L: Layout>(memory: &Memory<S, L>, sum: u32) -> u32 {
 
 /// Adds what each root holds: the place + 1, or 0.
 fn add_roots<S: Store, L: Layout>(memory: &Memory<S, L>, sum: u32) -> u32 {
-    memory.roots.iter().fold(sum, |sum, root| {
-        add(sum, root.map_or(0, |place| place.saturating_add(1)))
-    })
+    memory
+        .roots
+        .iter()
+        .fold(sum, |sum, root| { add(sum, reference_to(*root)) })
 }
 
 /// The checksum of a memory. Phases are numbered in the order of their declaration.

@@ -12,7 +12,8 @@ use bitset::BitSet;
 pub struct Marks {
     marked: BitSet<512>,
     pending: BitSet<512>,
-    /// For each region the words of its objects that are marked and not pending, as a marking counts them.
+    /// For each region the words of its objects that are marked and not pending, as a marking counts them. They stand here and
+    /// not with the regions, since they begin anew with each marking.
     weights: [u32; 32],
 }
 

@@ -16,7 +16,7 @@ pub struct Regions {
     pub entries: [Region; 32],
     /// How many regions the store has, of the first 32.
     pub count: u8,
-    /// The region opened last, or 0.
+    /// The region opened last, or 0, from where the first search goes.
     pub last: u8,
     /// How many times a region was opened; it stops at 4,294,967,295.
     pub openings: u32,
