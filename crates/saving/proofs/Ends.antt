@@ -11,7 +11,7 @@ use Rattle.model.specs.declared.edits.Refusal.{Refusal}
 use Rattle.model.specs.declared.edits.Refusal.TheVariants.{WorkListShort, OutputShort}
 use Rattle.canonical.specs.Walk.{place_of}
 use Rattle.canonical.specs.Saving.{order, number, roots_of, object_of, content_of}
-use Rattle.saving.specs.Saved.{saved}
+use Rattle.saving.specs.Saved.{fitted, saved}
 use Rattle.saving.specs.Passes.{measured, put, image_numbers, content_in}
 use Rattle.saving.proofs.Sums.{image_written, all_measured, all_put}
 
@@ -32,19 +32,44 @@ write_is S c out l =
     ∙ ap (λ n. (n, numbers (image_numbers S c) ++ drop n out)) (from_zero (length (numbers (image_numbers S c))))
     ∙ ap (λ bs. (length bs, bs ++ drop (length bs) out)) e
 
-module _ (S : Shape) (c : Content) (n : ℕ) (out : List ℕ) where
-  pub list_short : n < length c.objects → saved S c n out ≡ (Err WorkListShort, out)
+module _ (S : Shape) (c : Content) (out : List ℕ) where
+  pub list_short : (n : ℕ) → n < length c.objects → saved S c n out ≡ (Err WorkListShort, out)
   unfolding saved
-  list_short l = cond-true _ _ _ (lt-ltb n (length c.objects) l)
+  list_short n l = cond-true _ _ _ (lt-ltb n (length c.objects) l)
 
-  pub output_short : length c.objects ≤ n → length out < length (written S c) → saved S c n out ≡ (Err OutputShort, out)
+  pub list_enough : (n : ℕ) → length c.objects ≤ n → saved S c n out ≡ fitted S c out
   unfolding saved
-  output_short f l = cond-false _ _ _ (le-ltb n (length c.objects) f) ∙ cond-true _ _ _ (lt-ltb (length out) (length (written S c)) l)
+  list_enough n l = cond-false _ _ _ (le-ltb n (length c.objects) l)
 
-  pub saved_whole : length c.objects ≤ n → length (written S c) ≤ length out →
-      saved S c n out ≡ (Ok (length (written S c)), written S c ++ drop (length (written S c)) out)
-  unfolding saved
-  saved_whole f l = cond-false _ _ _ (le-ltb n (length c.objects) f) ∙ cond-false _ _ _ (le-ltb (length out) (length (written S c)) l)
+  output_short : length out < length (written S c) → fitted S c out ≡ (Err OutputShort, out)
+  unfolding fitted
+  output_short l = cond-true _ _ _ (lt-ltb (length out) (length (written S c)) l)
+
+  output_enough : length (written S c) ≤ length out → fitted S c out ≡ (Ok (length (written S c)), written S c ++ drop (length (written S c)) out)
+  unfolding fitted
+  output_enough l = cond-false _ _ _ (le-ltb (length out) (length (written S c)) l)
+
+  -- the image is measured, and then written or not
+  module _ (long : ℕ) (out′ : List ℕ) (measure : (long, out′) ≡ fold measured (0, out) (image_numbers S c)) where
+    is : ◌≡◌ {A = ℕ × List ℕ} (long, out′) (min (length (written S c)) (2 ^ 64 - 1), out)
+    is = measure ∙ measure_is S c out
+
+    pub refused_output : length out′ < long → (Err OutputShort, out′) ≡ fitted S c out
+    refused_output l =
+        let a : long ≡ min (length (written S c)) (2 ^ 64 - 1) = ap (λ p. p.0) is in
+        let b : out′ ≡ out = ap (λ p. p.1) is in
+        ap (λ o. (Err OutputShort, o)) b ∙ sym (output_short (omega (arith, ap length b)))
+
+    pub granted : (end : ℕ) (out″ : List ℕ) → length out < 2 ^ 64 - 1 → long ≤ length out′ →
+        (end, out″) ≡ fold put (0, out′) (image_numbers S c) → (Ok long, out″) ≡ fitted S c out
+    granted end out″ u l h =
+        let a : long ≡ min (length (written S c)) (2 ^ 64 - 1) = ap (λ p. p.0) is in
+        let b : out′ ≡ out = ap (λ p. p.1) is in
+        let room : length (written S c) ≤ length out = omega (arith, ap length b) in
+        let all : long ≡ length (written S c) = omega (arith, ap length b) in
+        let i : (end, out″) ≡ (length (written S c), written S c ++ drop (length (written S c)) out) =
+        h ∙ ap (λ o. fold put (0, o) (image_numbers S c)) b ∙ write_is S c out room in
+        ap₂ (λ k o. (Ok k, o)) all (ap (λ p. p.1) i) ∙ sym (output_enough room)
 
 -- the content of the entries is that of the graph
 content_by : Shape → Graph → List ℕ → Content
@@ -62,31 +87,8 @@ module _ (S : Shape) (g h : Graph) (n : ℕ) (entries : List ℕ) (same : h ≡ 
   pub objects_few : length entries ≤ n → length (content_of S g n).objects ≤ n
   objects_few l = omega (arith, length-map (drop 1 (order S g n)) (object_of S g (number S g n)), length-drop 1 (order S g n), ap length order_is)
 
-module _ (S : Shape) (g : Graph) (n : ℕ) (out : List ℕ) where
-  pub refused_list : (m : ℕ) (why : Refusal) → m ≡ n → why ≡ WorkListShort → suc m < length (order S g n) →
-      (Err why, out) ≡ saved S (content_of S g n) n out
-  refused_list m why q e l =
-      ap (λ w. (Err w, out)) e
-      ∙ sym (list_short S (content_of S g n) n out (omega (arith, length-map (drop 1 (order S g n)) (object_of S g (number S g n)), length-drop 1 (order S g n))))
-
-  module _ (c : Content) (same : c ≡ content_of S g n) (few : length (content_of S g n).objects ≤ n)
-      (long : ℕ) (out′ : List ℕ) (measure : (long, out′) ≡ fold measured (0, out) (image_numbers S c)) where
-    is : ◌≡◌ {A = ℕ × List ℕ} (long, out′) (min (length (written S (content_of S g n))) (2 ^ 64 - 1), out)
-    is = measure ∙ measure_is S c out ∙ ap (λ x. (min (length (written S x)) (2 ^ 64 - 1), out)) same
-
-    pub refused_output : length out′ < long → (Err OutputShort, out′) ≡ saved S (content_of S g n) n out
-    refused_output l =
-        let a : long ≡ min (length (written S (content_of S g n))) (2 ^ 64 - 1) = ap (λ p. p.0) is in
-        let b : out′ ≡ out = ap (λ p. p.1) is in
-        ap (λ o. (Err OutputShort, o)) b ∙ sym (output_short S (content_of S g n) n out few (omega (arith, ap length b)))
-
-    pub granted : (end : ℕ) (out″ : List ℕ) → length out < 2 ^ 64 - 1 → long ≤ length out′ →
-        (end, out″) ≡ fold put (0, out′) (image_numbers S c) → (Ok long, out″) ≡ saved S (content_of S g n) n out
-    granted end out″ u l h =
-        let a : long ≡ min (length (written S (content_of S g n))) (2 ^ 64 - 1) = ap (λ p. p.0) is in
-        let b : out′ ≡ out = ap (λ p. p.1) is in
-        let room : length (written S (content_of S g n)) ≤ length out = omega (arith, ap length b) in
-        let all : long ≡ length (written S (content_of S g n)) = omega (arith, ap length b) in
-        let i : (end, out″) ≡ (length (written S (content_of S g n)), written S (content_of S g n) ++ drop (length (written S (content_of S g n))) out) =
-        h ∙ ap₂ (λ o x. fold put (0, o) (image_numbers S x)) b same ∙ write_is S (content_of S g n) out room in
-        ap₂ (λ k o. (Ok k, o)) all (ap (λ p. p.1) i) ∙ sym (saved_whole S (content_of S g n) n out few room)
+pub refused_list : (S : Shape) (g : Graph) (n : ℕ) (out : List ℕ) (m : ℕ) (why : Refusal) → m ≡ n → why ≡ WorkListShort →
+    suc m < length (order S g n) → (Err why, out) ≡ saved S (content_of S g n) n out
+refused_list S g n out m why q e l =
+    ap (λ w. (Err w, out)) e
+    ∙ sym (list_short S (content_of S g n) out n (omega (arith, length-map (drop 1 (order S g n)) (object_of S g (number S g n)), length-drop 1 (order S g n))))

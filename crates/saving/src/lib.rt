@@ -16,7 +16,6 @@ ghost use Rattle.std.specs.Prelude.{◌≡◌, length, replicate};
 
 use crate::numbered::Numbered;
 use crate::numbering::number_objects;
-use crate::passes::{Measure, Write};
 use layout::Layout;
 use memory::Memory;
 use model::Refusal;
@@ -31,13 +30,7 @@ fn write_image<S: Store, L: Layout>(
     ensures { (result, output.new) ≡ saved L.shape (content_of L.shape (graph_in (view S.words S.spare memory.now)) (room (length list.old))) (room (length list.old)) output.old }
 {
     let count = number_objects(memory, list)?;
-    let numbered = Numbered::of(memory, &list[..count]);
-    let length = numbered.pass::<Measure>(output);
-    if length > output.len() {
-        return Err(Refusal::OutputShort);
-    }
-    numbered.pass::<Write>(output);
-    Ok(length)
+    Numbered::of(memory, &list[..count]).write(output)
 }
 
 /// Writes the image of what the roots reach at the start of the output, and tells its length. Later bytes of the output stay.

@@ -3,12 +3,14 @@ ghost use Rattle.canonical.specs.Saving.{object_of, roots_of};
 ghost use Rattle.memory.specs.Graph.{graph_in};
 ghost use Rattle.memory.specs.State.{view};
 ghost use Rattle.saving.specs.Passes.{content_in, head_numbers, image_numbers, number_in, object_numbers, objects_numbers};
+ghost use Rattle.saving.specs.Saved.{fitted};
 ghost use Rattle.std.specs.Prelude.{◌≡◌, ◌≤◌, fold, length, map};
 
 use crate::numbering::{place_of, root_count};
-use crate::passes::Pass;
+use crate::passes::{Measure, Pass, Write};
 use layout::Layout;
 use memory::{Memory, reference_to};
+use model::Refusal;
 use store::Store;
 
 /// What an image is made of: a memory, and the references of the objects in the order of their numbers.
@@ -94,11 +96,23 @@ impl<'a, S: Store, L: Layout> Numbered<'a, S, L> {
     }
 
     /// Passes over all numbers of the image, and tells the place after the last.
-    pub(crate) fn pass<P: Pass>(&self, output: &mut [u8]) -> usize
+    fn pass<P: Pass>(&self, output: &mut [u8]) -> usize
         ensures { (result, output.new) ≡ fold P.step (0, output.old) (image_numbers L.shape (content_in L.shape (graph_in (view S.words S.spare self.now.memory.now)) self.now.entries.now)) }
     {
         let at = self.head::<P>(output);
         let at = self.roots::<P>(output, at);
         self.objects::<P>(output, at)
+    }
+
+    /// Writes the image at the start of the output, if it has room there, and tells its length.
+    pub(crate) fn write(&self, output: &mut [u8]) -> Result<usize, Refusal>
+        ensures { (result, output.new) ≡ fitted L.shape (content_in L.shape (graph_in (view S.words S.spare self.now.memory.now)) self.now.entries.now) output.old }
+    {
+        let length = self.pass::<Measure>(output);
+        if length > output.len() {
+            return Err(Refusal::OutputShort);
+        }
+        self.pass::<Write>(output);
+        Ok(length)
     }
 }

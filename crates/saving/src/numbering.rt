@@ -36,6 +36,7 @@ fn meet(list: &mut [u32], count: usize, reference: u32) -> Result<usize, Refusal
     if reference == 0 || place_of(&list[..count], reference) < count {
         return Ok(count);
     }
+    // More entries are never needed: a memory has 32,768 places for objects.
     if count == list.len().min(32_768) {
         return Err(Refusal::WorkListShort);
     }
@@ -83,6 +84,7 @@ pub(crate) fn root_count<S: Store, L: Layout>(memory: &Memory<S, L>) -> usize
     ensures count { result ≡ root_count (graph_in (view S.words S.spare memory.now)) }
 {
     let mut count = 64;
+    // No `rposition`: its contract tells of a run of calls, from which no value follows at once.
     while count > 0 && memory.roots[count - 1].is_none() {
         count -= 1;
     }
@@ -99,6 +101,7 @@ pub(crate) fn number_objects<S: Store, L: Layout>(
     let used = root_count(memory);
     let mut count = meet_roots(list, &memory.roots[..used])?;
     let mut k = 0;
+    // The entries grow in number while they are gone over, so no `for` goes over them.
     while k < count {
         let entry = list[k];
         count = meet_referents(memory, list, count, entry)?;
