@@ -26,3 +26,4 @@ pub mod MarkKeeps
 pub mod Entering
 pub mod RefineKeeps
 pub mod Reaching
+pub mod SavedAlike
