@@ -5,7 +5,7 @@ use Rattle.image.specs.Content.{Content, written}
 use Rattle.model.specs.declared.edits.Refusal.{Refusal}
 use Rattle.model.specs.declared.edits.Refusal.TheVariants.{WorkListShort, OutputShort}
 
--- how many entries of a work list of n are used: a memory has no more places for objects
+-- how many entries of a work list of n are used: there are no more places for objects in a memory
 abbrev pub room : ℕ → ℕ
 room n = min n 32768
 

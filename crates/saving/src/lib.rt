@@ -35,8 +35,8 @@ fn write_image<S: Store, L: Layout>(
 
 /// Writes the image of what the roots reach at the start of the output, and tells its length. Later bytes of the output stay.
 /// The work list may hold anything, and is all 0 after the call.
-/// Refused: 5 if the work list is shorter than the objects are many, 6 if the output is shorter than the image. A refusal
-/// alters no byte of the output.
+/// Refused: 5 if the work list is shorter than the objects are many, or they are more than there are places for objects; 6 if
+/// the output is shorter than the image. A refusal alters no byte of the output.
 pub fn save<S: Store, L: Layout>(
     memory: &Memory<S, L>,
     list: &mut [u32],
