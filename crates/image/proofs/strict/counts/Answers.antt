@@ -1,4 +1,4 @@
-use Rattle.std.proofs.Common.{◌≡◌, Ok, refl, ap, ◌∙◌, subst}
+use Rattle.std.proofs.Common.{◌≡◌, Ok, refl, ap, ◌∙◌, subst, arith}
 use Rattle.image.specs.Pass.{at_place}
 use Rattle.image.specs.Read.{number_at}
 use Rattle.image.proofs.Stages.{number_is, counts_ok}
@@ -12,6 +12,6 @@ returns c =
     let there : number_at c.args.reader.now.bytes.now 0 n.0.next ≡ Ok r.0 = subst (λ x. number_at x.bytes.now 0 x.position ≡ Ok r.0) n.2.1 r.1 in
     let roots = number_is c.args.reader.now.bytes.now 0 n.0.next r.0 _ _ there r.2.0 refl in (
       ((c.in_ok-objects.objects, c.in_ok-roots.roots), r.0.next),
-      counts_ok c.args.reader.now.bytes.now c.args.reader.now.position _ _ _ _ objects roots c.if-roots-gt64.false,
+      counts_ok c.args.reader.now.bytes.now c.args.reader.now.position _ _ _ _ objects roots (omega arith),
       (refl, r.2.1 ∙ ap (λ x. at_place x r.0.next) n.2.1),
     )
