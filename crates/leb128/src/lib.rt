@@ -37,6 +37,9 @@ pub struct Number {
     pub next: usize,
 }
 
+// The most that the fifth byte of a number may be: four bits are left for it.
+const MOST_OF_FIFTH: u8 = 15;
+
 // The bytes of a number from one of them on, of which `left` may follow the next: their value and
 // length. The first byte of a number of several is not 0, and four may follow it.
 fn read_following(bytes: &[u8], left: u32) -> Result<(u32, usize), Fault>
@@ -46,7 +49,7 @@ fn read_following(bytes: &[u8], left: u32) -> Result<(u32, usize), Fault>
     match bytes {
         [] => Err(Fault::EndsEarly),
         [0, ..] => Err(Fault::NotShortest),
-        [byte, ..] if left == 0 && *byte > 15 => Err(Fault::TooWide),
+        [byte, ..] if left == 0 && *byte > MOST_OF_FIFTH => Err(Fault::TooWide),
         [byte, ..] if *byte < 128 => Ok((u32::from(*byte), 1)),
         [byte, rest @ ..] => {
             let (value, length) = read_following(rest, left - 1)?;
@@ -85,10 +88,9 @@ pub fn read(bytes: &[u8], at: usize) -> Result<Number, Fault>
     }
 }
 
-/// How many bytes the written form of `value` has, one for each group of seven bits.
-pub fn encoded_len(value: u32) -> usize
-    ensures length { result ≡ length (encode value) }
-    ensures range { (1 ≤ result) × (result ≤ 5) }
+// How many groups of seven bits `value` has.
+fn group_count(value: u32) -> usize
+    ensures { result ≡ group_count value }
 {
     match value {
         ..0x80 => 1,
@@ -97,6 +99,14 @@ pub fn encoded_len(value: u32) -> usize
         ..0x1000_0000 => 4,
         _ => 5,
     }
+}
+
+/// How many bytes the written form of `value` has, one for each group of seven bits.
+pub fn encoded_len(value: u32) -> usize
+    ensures length { result ≡ length (encode value) }
+    ensures range { (1 ≤ result) × (result ≤ 5) }
+{
+    group_count(value)
 }
 
 // Writes the groups of `value`, of which at most `left` follow the first.
