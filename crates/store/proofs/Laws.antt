@@ -1,16 +1,13 @@
 -- The laws of words and bytes: what is read, what a write leaves, and that bytes are their words and then their spare bytes.
-use Rattle.std.proofs.Common.{◌≡◌, ℕ, zero, suc, ◌+◌, ◌-◌, ◌*◌, ◌/◌, ◌%◌, ◌^◌, ◌<◌, ◌≤◌, ◌≢◌, List, [], ◌∷◌, ◌++◌, map, length, get_or, take, drop, set, sym, refl, ap, ◌∙◌, ⊎_elim, arith}
+use Rattle.std.proofs.Common.{◌≡◌, ℕ, zero, suc, ◌+◌, ◌*◌, ◌/◌, ◌%◌, ◌<◌, ◌≤◌, ltb, ◌≢◌, List, [], ◌∷◌, ◌++◌, map, length, get_or, take, drop, set, sym, refl, ap, ◌∙◌, ⊎_elim, arith}
 use Rattle.std.specs.List.{range_with_len, flat_map}
 use Rattle.std.proofs.lemmas.List.FromFn.{length-map-range_with_len, get_or-map-range_with_len}
-use Rattle.std.proofs.lemmas.List.{length-set, get_or-set_same, get_or-set_other, drop-set-lt, drop_more, drop-drop, get_or-drop, get_or-take, ext_get_or}
-use Rattle.std.proofs.lemmas.List.Edits.{paste_more, paste_none}
-use Rattle.std.proofs.Math.Seq.{paste}
-use Rattle.std.proofs.lemmas.Slice.{put_mid-paste}
-use Rattle.std.specs.Int.{from_le_bytes, to_le_bytes, w32}
+use Rattle.std.proofs.lemmas.List.{length-set, get_or-set_same, get_or-set_other, set_past, drop-set-lt, drop_more, drop-drop, get_or-drop, get_or-take, ext_get_or}
+use Rattle.std.specs.Int.{from_le_bytes, w32}
 use Rattle.std.specs.Simd.{first_chunks}
-use borrow.Rule.Slice.PartMut.{put_mid}
-use Rattle.std.proofs.lemmas.Bool.{cases_eq}
-use Rattle.store.specs.Words.{word_at, words_of, spare_of, four_bytes, bytes_of}
+use Rattle.std.proofs.lemmas.Bool.{cases_eq, cond_both, ltb-true, ltb-false}
+use Rattle.store.specs.Access.{write_at}
+use Rattle.store.specs.Words.{word_at, words_of, spare_of, four_bytes, bytes_of, word_done, four_set, word_written}
 
 -- ---- the words of bytes
 
@@ -21,10 +18,6 @@ length-words bs = length-map-range_with_len (word_at bs) 0 (length bs / 4)
 get_d_words : (bs : List ℕ) (i : ℕ) → i < length bs / 4 → get_or (words_of bs) i 0 ≡ word_at bs i
 unfolding words_of
 get_d_words bs i h = get_or-map-range_with_len (word_at bs) 0 (length bs / 4) i i 0 h (omega arith)
-
--- bs with the four bytes of w from the position p on
-abbrev pub four_set : List ℕ → ℕ → ℕ → List ℕ
-four_set bs p w = set (set (set (set bs p (w % 256)) (p + 1) (w / 256 % 256)) (p + 2) (w / 65536 % 256)) (p + 3) (w / 16777216)
 
 -- ---- the same by groups of four bytes, as the code goes
 
@@ -45,27 +38,6 @@ word_of_four bs i d h =
     λ j q l e. get_or-take 4 _ j 0 l ∙ get_or-drop (4 * i) bs j 0 ∙ ap (λ k. get_or bs k 0) e in
     rw (four_at (length bs / 4) bs i d h, byte 0 (4 * i) (omega arith) (omega arith), byte 1 (4 * i + 1) (omega arith) refl)
     (rw (byte 2 (4 * i + 2) (omega arith) refl, byte 3 (4 * i + 3) (omega arith) refl) (omega arith))
-
--- four bytes put over a part of bs are four single writes
-four_pasted : (bs : List ℕ) (p k a b c d : ℕ) → k ≡ 4 → p + 3 < length bs
-    → put_mid p k bs (a ∷ b ∷ c ∷ d ∷ []) ≡ set (set (set (set bs p a) (p + 1) b) (p + 2) c) (p + 3) d
-four_pasted bs p k a b c d e l =
-    let four : List ℕ = a ∷ b ∷ c ∷ d ∷ [] in
-    let here : p + 0 ≡ p = omega arith in
-    put_mid-paste p k bs four four 4 refl (sym e) refl
-    ∙ sym (paste_more bs p four 3 0 l (omega arith)) ∙ ap (λ l. set l (p + 3) d)
-    (sym (paste_more bs p four 2 0 (omega arith) (omega arith)) ∙ ap (λ l. set l (p + 2) c)
-    (sym (paste_more bs p four 1 0 (omega arith) (omega arith)) ∙ ap (λ l. set l (p + 1) b)
-    (sym (paste_more bs p four 0 0 (omega arith) (omega arith)) ∙ ap (λ q. set (paste bs p four 0) q a) here ∙ ap (λ l. set l p a) (sym (paste_none bs p four)))))
-
--- put over its group, the bytes of w are those that `four_set` writes
-pub word_pasted : (bs cs ys : List ℕ) (i w : ℕ) → cs ≡ bs → ys ≡ to_le_bytes w32 w → i < length bs / 4 → w < 2 ^ 32
-    → put_mid (4 * i) (4 * i + 4 - 4 * i) cs ys ≡ four_set bs (4 * i) w
-word_pasted bs cs ys i w e is h small =
-    let high : w / 16777216 % 256 ≡ w / 16777216 = omega arith in
-    rw (e, is)
-    (four_pasted bs (4 * i) _ (w % 256) (w / 256 % 256) (w / 65536 % 256) (w / 16777216 % 256) (omega arith) (omega arith)
-    ∙ ap (set _ (4 * i + 3)) high)
 
 -- ---- what a write leaves: another word at one index, all else as it was
 
@@ -180,3 +152,23 @@ module _ (bs : List ℕ) (small : (k : ℕ) → k < length bs → get_or bs k 0 
   pub bytes_back : bs ≡ bytes_of (words_of bs) ++ spare_of bs
   unfolding words_of bytes_of spare_of
   bytes_back = sym (words_back (length bs / 4) 0 (length bs / 4) (omega arith) (omega arith))
+
+-- ---- a write of the bytes is one of the words
+
+pub done-words : (bs : List ℕ) (i : ℕ) → word_done bs i ≡ write_at (words_of bs) i
+done-words bs i = rw length-words
+
+pub words-written : (bs : List ℕ) (i w : ℕ) → words_of (word_written bs i w) ≡ set (words_of bs) i w
+words-written bs i w =
+    cond_both (ltb i (length bs / 4)) (four_set bs (4 * i) w) bs (λ cs. words_of cs ≡ set (words_of bs) i w)
+    (λ e. words_four bs i w (ltb-true i (length bs / 4) e))
+    (λ e. sym (set_past (words_of bs) i w (omega (arith, length-words bs, ltb-false i (length bs / 4) e))))
+
+pub spare-written : (bs : List ℕ) (i w : ℕ) → spare_of (word_written bs i w) ≡ spare_of bs
+spare-written bs i w =
+    cond_both (ltb i (length bs / 4)) (four_set bs (4 * i) w) bs (λ cs. spare_of cs ≡ spare_of bs)
+    (λ e. spare_four bs i w (ltb-true i (length bs / 4) e))
+    (λ e. refl)
+
+-- what the functions of a ByteStore need of these
+pub ruleset held_words = (length-words, word_of_four)
