@@ -6,7 +6,7 @@
 mod bits;
 mod word;
 
-ghost use Rattle.std.specs.Prelude.{◌≡◌, ◌-◌, ◌*◌, ◌<◌, ◌≤◌, false, IfSome, nat_lt};
+ghost use Rattle.std.specs.Prelude.{◌≡◌, ◌-◌, ◌*◌, ◌<◌, ◌≤◌, false, replicate, IfSome, nat_lt};
 ghost use Rattle.bitset.specs.Members.{members};
 ghost use Rattle.bitset.specs.Set.{Bounded, First, cut, empty, first_of, joined, put, tally};
 
@@ -15,12 +15,19 @@ pub use bits::BitSet;
 // The numbers of so many words fit a `usize`, and those of no word after them do.
 const MOST_WORDS: usize = 1 << 58;
 
+// W words of 0.
+fn zeros<const W: usize>() -> [u64; W]
+    ensures { result ≡ replicate W 0 }
+{
+    [0; W]
+}
+
 impl<const W: usize> BitSet<W> {
     /// The set with no members.
     pub fn new() -> Self
         ensures { members result ≡ empty }
     {
-        BitSet { words: [0; W] }
+        BitSet { words: zeros() }
     }
 
     /// Whether `i` is a member. No number at or past 64 * W is.
