@@ -1,5 +1,5 @@
 -- Each region has a table of its own.
-use Rattle.std.proofs.Common.{◌≡◌, ℕ, zero, suc, ◌<◌, ◌≤◌, Bool, false, List, [], ◌∷◌, length, get_or, replicate, Some, refl, ap, inl, inr, arith}
+use Rattle.std.proofs.Common.{◌≡◌, ℕ, zero, suc, ◌<◌, ◌≤◌, Bool, false, ◌&&◌, ltb, List, [], ◌∷◌, length, get_or, replicate, Some, refl, ap, inl, inr, arith}
 use Rattle.std.proofs.Math.ListN.{set}
 use mathlib.Core.Path.{fun_ext}
 use Rattle.std.specs.List.{slice_get}
@@ -57,7 +57,11 @@ table_joined ts g d t x len l j p = fun_ext (λ h. fun_ext (λ k. elim (cases_eq
         let e : in_table (slice_get (set ts g t) h) k ≡ in_table (slice_get ts h) k = ap (λ o. in_table o k) (slice_get-set_other ts g h t u) in
         grind (arith, nat_tests)
 
--- a region that there is none of has no table, and entering a card there alters nothing
-pub not_entered : (t : ℕ → ℕ → Bool) (g d : ℕ) → 32 ≤ g → t ≡ entered t g d
+-- a card or a region that there is none of is entered nowhere
+pub not_entered : (t : ℕ → ℕ → Bool) (g d : ℕ) → (ltb g 32 && ltb d 512) ≡ false → t ≡ entered t g d
 unfolding entered
-not_entered t g d l = fun_ext (λ h. fun_ext (λ k. grind (arith, nat_tests)))
+not_entered t g d e = fun_ext (λ h. fun_ext (λ k. grind (arith, nat_tests)))
+
+-- a region that there is none of has no table, and entering a card there alters nothing
+pub no_region : (t : ℕ → ℕ → Bool) (g d : ℕ) → 32 ≤ g → t ≡ entered t g d
+no_region t g d l = not_entered t g d (grind (arith, nat_tests))

@@ -1,7 +1,7 @@
 //! The cards of a heap.
 ghost use Rattle.std.specs.Prelude.{◌≡◌, ◌+◌, ◌*◌, ◌<◌, IfSome};
 ghost use Rattle.bitset.specs.Set.{first_of};
-ghost use Rattle.tables.specs.Cards.{cards_of, clean_cards, cleaned, dirtied, remembering};
+ghost use Rattle.tables.specs.Cards.{cards_of, clean_cards, cleaned, dirtied, remembering, table_in};
 
 use bitset::BitSet;
 
@@ -22,7 +22,7 @@ impl Cards {
     {
         Cards {
             dirty: BitSet::new(),
-            remembered: [BitSet::new(); 32],
+            remembered: no_tables(),
         }
     }
 
@@ -49,7 +49,7 @@ impl Cards {
     }
 
     /// Enters a card in the table of a region.
-    #[tactic(auto, using(crate::proofs::Tables::table_joined, crate::proofs::Tables::not_entered))]
+    #[tactic(auto, using(crate::proofs::Tables::table_joined, crate::proofs::Tables::no_region))]
     pub fn remember(&mut self, region: u32, card: u32)
         ensures { cards_of self.new ≡ remembering (cards_of self.old) region card }
     {
@@ -75,4 +75,11 @@ impl Cards {
             .get(region as usize)
             .is_some_and(|table| table.contains(card as usize))
     }
+}
+
+/// A table with no card for each region.
+fn no_tables() -> [BitSet<8>; 32]
+    ensures { table_in result ≡ clean_cards.table }
+{
+    [BitSet::new(); 32]
 }
