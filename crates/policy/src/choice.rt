@@ -11,9 +11,10 @@ fn best_from<P: Policy>(policy: &P, candidates: &[Summary], from: usize) -> usiz
     ensures { FirstOf (P.before policy.now) candidates.now from (length candidates.now) result }
 {
     let mut best = from;
-    for (place, candidate) in candidates.iter().enumerate().skip(from + 1) {
+    // From a part of the candidates on: `skip` goes over those before it one by one.
+    for (later, candidate) in candidates[from + 1..].iter().enumerate() {
         if policy.comes_before(candidate, &candidates[best]) {
-            best = place;
+            best = from + 1 + later;
         }
     }
     best
