@@ -24,8 +24,9 @@ pub enum Marked {
 fn shade_roots<S: Store, L: Layout>(memory: &mut Memory<S, L>)
     ensures { view S.words S.spare memory.new ≡ shaded_roots (view S.words S.spare memory.old) 64 }
 {
-    for root in memory.roots {
-        if let Some(place) = root {
+    // By index: going over the array itself copies it, and over a loan of it a proof can't speak of the memory.
+    for k in 0..64 {
+        if let Some(place) = memory.roots[k] {
             memory.marks.shade(place);
         }
     }
