@@ -15,7 +15,7 @@ use Rattle.heap.proofs.Geometry.{place_below}
 use Rattle.heap.proofs.Shading.{one_shaded, shaded_sound}
 
 -- nothing need change where the marking is not under way, the reference is nil, or what it names is marked
-same_guards : (s : State) (old : ℕ) → (s.phase ≡ Marking → (q : ℕ) → old ≡ suc q → s.marks.marked q ≡ true) → Guards s s old
+pub same_guards : (s : State) (old : ℕ) → (s.phase ≡ Marking → (q : ℕ) → old ≡ suc q → s.marks.marked q ≡ true) → Guards s s old
 same_guards s old named =
     record {
       phase = refl;
@@ -27,13 +27,13 @@ same_guards s old named =
     }
 
 -- while marking, an object is shaded
-shade_sound : {S : Shape} {s : State} → Sound S s → s.phase ≡ Marking → (q : ℕ) → s.starts q ≡ true → Sound S (with_marks s (shaded s.marks q))
+pub shade_sound : {S : Shape} {s : State} → Sound S s → s.phase ≡ Marking → (q : ℕ) → s.starts q ≡ true → Sound S (with_marks s (shaded s.marks q))
 shade_sound {S} {s} h marking q object =
     subst (λ f. Sound S (with_phase (with_marks s (shaded s.marks q)) f)) (sym marking)
     (shaded_sound h (one_shaded s.marks q (place_below h q object)) h.marked (λ p e. ap s.starts e ∙ object) h.awaited h.weights (h.tallied marking))
 
 -- the object at q, which the old reference names, is shaded
-shade_guards : {S : Shape} {s : State} → Sound S s → (old q : ℕ) → old ≡ suc q → s.starts q ≡ true → Guards s (with_marks s (shaded s.marks q)) old
+pub shade_guards : {S : Shape} {s : State} → Sound S s → (old q : ℕ) → old ≡ suc q → s.starts q ≡ true → Guards s (with_marks s (shaded s.marks q)) old
 shade_guards {S} {s} h old q is object =
     let d = one_shaded s.marks q (place_below h q object) in
     record {

@@ -12,16 +12,16 @@ use Rattle.std.proofs.lemmas.Bool.{cond-true, cond-false, eq-eqb, ne_eqb}
 use Rattle.life.proofs.Agree.{Agree, At, none, some, at_root, head_is}
 
 -- a test that chooses for both
-both_cond : {A B : Type 0} (P : A → B → Type 0) (b : Bool) {x y : A} {u v : B} → (b ≡ true → P x u) → (b ≡ false → P y v) → P (cond b x y) (cond b u v)
+pub both_cond : {A B : Type 0} (P : A → B → Type 0) (b : Bool) {x y : A} {u v : B} → (b ≡ true → P x u) → (b ≡ false → P y v) → P (cond b x y) (cond b u v)
 both_cond P true f g = f refl
 both_cond P false f g = g refl
 
 -- where a root is not nil, an edit of its object is done
-of_object_lem : {A : Type 0} (m : Content) (i n : ℕ) (done : Result A Refusal × Content) → held m i ≡ suc n → of_object m i done ≡ done
+pub of_object_lem : {A : Type 0} (m : Content) (i n : ℕ) (done : Result A Refusal × Content) → held m i ≡ suc n → of_object m i done ≡ done
 of_object_lem m i n done e = cond-false (eqb (held m i) 0) _ _ (ne_eqb (held m i) 0 (λ z. omega arith))
 
 -- where it is nil, it is refused
-of_nil : {A : Type 0} (m : Content) (i : ℕ) (done : Result A Refusal × Content) → held m i ≡ 0 → of_object m i done ≡ (Err RootNil, m)
+pub of_nil : {A : Type 0} (m : Content) (i : ℕ) (done : Result A Refusal × Content) → held m i ≡ 0 → of_object m i done ≡ (Err RootNil, m)
 of_nil m i done e = cond-true (eqb (held m i) 0) _ _ (eq-eqb (held m i) 0 e)
 
 -- both heaps are as they were, or one is T of the place of the object that root i holds, and the other is M
